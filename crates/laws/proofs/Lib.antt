@@ -1,3 +1,3 @@
 -- What the users of the laws show before a law applies.
-pub mod AnsweredLaws
+pub mod ClosedLaws
 pub mod RegionLaws

@@ -4,13 +4,13 @@ ghost use Rattle.std.specs.Prelude.{◌≡◌, [], IfOk, OnOk, false};
 ghost use Rattle.tt_kinds.specs.Argument.{change_values, put, readings};
 ghost use Rattle.tt_kinds.specs.Kinds.{ty_shape};
 ghost use Rattle.tt_kinds.specs.Matched.{ArgumentsMatched, MatchedUnder};
-ghost use Rattle.tt_kinds.specs.Param.{holds_param};
+ghost use Rattle.tt_kinds.specs.Param.{IsAnswered, holds_param};
 ghost use Rattle.tt_kinds.specs.Plain.{inst_tree};
 ghost use Rattle.tt_kinds.specs.Reading.{move, read};
 ghost use Rattle.tt_interner.specs.Arguments.{AreArguments, arguments};
 ghost use Rattle.tt_interner.specs.Owned.{IsOwned, tree_in};
 ghost use Rattle.tt_interner.specs.Stored.{Extends};
-ghost use Rattle.tt_binder.specs.Instance.{HasNoCause, IsPlain};
+ghost use Rattle.tt_binder.specs.Instance.{IsPlain};
 
 use crate::NOT_OWNED;
 use type_terms::{
@@ -28,7 +28,7 @@ pub fn instance(cx: &mut Interner, ty: Ty, args: &[GenericArg]) -> Result<Ty, Re
     ensures owned { IfOk result (λ made. IsOwned ty_shape cx.new made) }
     ensures plain { IfOk result (λ made. IsPlain (arguments cx.old.rows args.now)
         (tree_in cx.old.rows (ty_shape ty)) (tree_in cx.new.rows (ty_shape made))) }
-    ensures no_cause { OnOk result (HasNoCause (arguments cx.old.rows args.now) (tree_in cx.old.rows (ty_shape ty))) }
+    ensures answered { OnOk result (IsAnswered (arguments cx.old.rows args.now) (tree_in cx.old.rows (ty_shape ty))) }
 {
     let made = EarlyBinder::bind(ty).instantiate(cx, args)?;
     Ok(made.skip_norm_wip())

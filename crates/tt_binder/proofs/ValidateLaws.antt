@@ -61,7 +61,8 @@ use Rattle.tt_fold.specs.Places.{IsIn}
 use Rattle.tt_fold.specs.Remember.{Memo, places}
 use Rattle.tt_fold.specs.declared.memory.Place.{Place}
 use Rattle.tt_binder.specs.Validate.{Agrees, Agrees_all, vars_at, Validation, validation_place, SeenAgree, RootAgrees}
-use Rattle.tt_binder.specs.Validate.{AddsPlace, ValidationLooks, EntersOnce, validate_hooks, ValidationIsExact}
+use Rattle.tt_binder.specs.Validate.{AddsPlace, ValidationLooks, EntersOnce, validate_hooks, IsSamePlace}
+use Rattle.tt_binder.specs.Validate.{ValidationIsExact}
 use Rattle.tt_binder.specs.declared.validate_bound_vars.WrongBoundVar.{WrongBoundVar}
 use Rattle.tt_binder.proofs.RowArguments.{IsClauseTree, kind_tree, const_kind_tree}
 
@@ -129,10 +130,6 @@ under_one s s1 t entered =
     let deeper : s1.depth ≡ s.depth + 1 = ap (λ x. x.depth) entered in
     let under : s1.depth ≡ suc s.depth = omega arith in
     ap (λ vs. Agrees vs s1.depth t) (ap (λ x. x.vars) entered) ∙ ap (λ n. Agrees s.vars n t) under
-
--- the same list, and the same number of binders
-abbrev IsSamePlace : Validation → Validation → Type 0
-IsSamePlace s s' = (s'.vars ≡ s.vars) × (s'.depth ≡ s.depth)
 
 same_after : (s s' : Validation) → s' ≡ s → IsSamePlace s s'
 same_after s s' e = (ap (λ x. x.vars) e, ap (λ x. x.depth) e)
@@ -314,8 +311,8 @@ mutual
 
 mutual
   breaks_disagrees : (s s' : Validation) (t : Tree Depth) (b : WrongBoundVar) → Breaks validate_hooks s t b s' → Agrees s.vars s.depth t → ⊥
-  breaks_disagrees s s' t b (region_broke is h) agrees = h agrees
-  breaks_disagrees s s' t b (term_broke is h) agrees = h agrees
+  breaks_disagrees s s' t b (region_broke is h) agrees = h.1 agrees
+  breaks_disagrees s s' t b (term_broke is h) agrees = h.1 agrees
   breaks_disagrees s s' (term l ts) b (inside_broke {s1 = s1} is h (error_broke e)) agrees = never_told s1 s' (error_of l) b e
   breaks_disagrees s s' (term l ts) b (inside_broke {s1 = s1} is h (term_inside_broke {s1 = s2} e all)) agrees =
       let same = same_twice s s1 s2 (h.vars, h.depth) (same_after s1 s2 (told_still s1 s2 (error_of l) e)) in
@@ -339,6 +336,34 @@ mutual
       let same = goes_same s s1 t a in
       breaks_all_disagree s1 s' ts b h (rw (same.0, same.1) agree.1)
 
+mutual
+  breaks_same : (s s' : Validation) (t : Tree Depth) (b : WrongBoundVar) → Breaks validate_hooks s t b s' → IsSamePlace s s'
+  breaks_same s s' t b (region_broke is h) = same_after s s' h.0
+  breaks_same s s' t b (term_broke is h) = same_after s s' h.0
+  breaks_same s s' (term l ts) b (inside_broke {s1 = s1} is h (error_broke e)) = absurd (never_told s1 s' (error_of l) b e)
+  breaks_same s s' (term l ts) b (inside_broke {s1 = s1} is h (term_inside_broke {s1 = s2} e all)) =
+      same_twice s s1 s' (h.vars, h.depth) (same_twice s1 s2 s' (same_after s1 s2 (told_still s1 s2 (error_of l) e)) (breaks_all_same s2 s' ts b all))
+  breaks_same s s' (param o i name) b (inside_broke is h inside) = elim inside [ ]
+  breaks_same s s' (bound o d e) b (inside_broke is h inside) = elim inside [ ]
+  breaks_same s s' (region r) b (inside_broke is h inside) = elim inside [ ]
+  breaks_same s s' (node l ts) b (inside_broke is h inside) = elim inside [ ]
+  breaks_same s s' (binder vs t) b (inside_broke is h inside) = let never = is in cc
+  breaks_same s s' (term l ts) b (unhooked_broke is all) = breaks_all_same s s' ts b all
+  breaks_same s s' (node (error_label e) none) b (token_broke h) = absurd h
+  breaks_same s s' (node l ts) b (node_broke is all) = breaks_all_same s s' ts b all
+  breaks_same s s' (binder vs t) b (enter_broke e) = absurd e
+  breaks_same s s' (binder vs t) b (under_broke {s1 = s1} {s2 = s2} e (value_broke h) l) =
+      let inner = breaks_same s1 s2 t b h in
+      let deeper : s1.depth ≡ s.depth + 1 = ap (λ x. x.depth) e in
+      let inside : s2.depth ≡ s1.depth = inner.1 in
+      let left : s'.depth ≡ s2.depth - 1 = ap (λ x. x.depth) l in
+      (ap (λ x. x.vars) l ∙ inner.0 ∙ ap (λ x. x.vars) e, omega arith)
+
+  breaks_all_same : (s s' : Validation) (ts : Forest Depth) (b : WrongBoundVar) → BreaksAll validate_hooks s ts b s' → IsSamePlace s s'
+  breaks_all_same s s' none b h = elim h [ ]
+  breaks_all_same s s' (also t ts) b (first_broke h) = breaks_same s s' t b h
+  breaks_all_same s s' (also t ts) b (later_broke {s1 = s1} a h) = same_twice s s1 s' (goes_same s s1 t a) (breaks_all_same s1 s' ts b h)
+
 all_found : (s s' : Validation) (t : Tree Depth) → GoesOver validate_hooks s t s' → IndicesFit t → SeenAgree s → Agrees s.vars s.depth t × SeenAgree s'
 all_found s s' t went fits agree =
     let found = goes_agrees s s' t went fits (record { at_place = λ p m small. agree p m }) in
@@ -352,7 +377,7 @@ all_found s s' t went fits agree =
 
 -- a visit that goes to its end found that all variables agree, and one that breaks found one that does not
 pub validation_is_exact : ValidationIsExact
-validation_is_exact s s' t = (all_found s s' t, λ b h. breaks_disagrees s s' t b h)
+validation_is_exact s s' t = (all_found s s' t, λ b h. breaks_disagrees s s' t b h, λ b h. breaks_same s s' t b h)
 
 -- What is remembered.
 

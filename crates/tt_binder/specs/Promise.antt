@@ -3,7 +3,7 @@ use Rattle.std.specs.Prelude.{ℕ, List, Result, Ok, false, ◌≡◌, ◌≤◌
 use Rattle.tt_index.specs.declared.refusal.Refusal.{Refusal}
 use Rattle.tt_kinds.specs.Label.{Name, Sort}
 use Rattle.tt_kinds.specs.Tree.{Depth, param}
-use Rattle.tt_kinds.specs.Param.{holds_param}
+use Rattle.tt_kinds.specs.Param.{holds_param, IsAnswered}
 use Rattle.tt_kinds.specs.Argument.{Argument}
 use Rattle.tt_kinds.specs.Cause.{Cause}
 use Rattle.tt_kinds.specs.Count.{generic_types, place_count}
@@ -53,6 +53,8 @@ pub record InstancePromise {T : Type 0} (shape : T → Shape) (args : List (Argu
   pub matched : IfOk result (λ u. StaysMatched args (tree_by shape old.rows value) (tree_by shape new.rows u.value))
   -- no parameter is left if the arguments hold none
   pub closed : IfOk result (λ u. LeavesNoParam args (tree_by shape new.rows u.value))
+  -- if the call succeeds, each parameter of the value has an argument of its sort
+  pub answered : OnOk result (IsAnswered args (tree_by shape old.rows value))
   -- if the call succeeds, there is no cause to refuse it
   pub no_cause : OnOk result (HasNoCause args (tree_by shape old.rows value))
   -- if the call is refused, there is a reason

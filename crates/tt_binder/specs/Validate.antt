@@ -81,24 +81,29 @@ abbrev pub ValidationEnters : Validation → Next → Validation → Type 0
 ValidationEnters s Descend s' = s' ≡ record { vars = s.vars; depth = s.depth + 1; seen = s.seen }
 ValidationEnters s Skip s' = (greatest ≤ s.depth) × (s' ≡ s)
 
--- the visitor's hooks, which break only at a region or a term that disagrees
+-- the visitor's hooks, which break only at a region or a term that disagrees, and then change nothing
 abbrev pub validate_hooks : Visits Validation WrongBoundVar
 validate_hooks = record {
   on_region = λ s t s'. (s' ≡ s) × Agrees s.vars s.depth t;
-  region_breaks = λ s t b s'. Agrees s.vars s.depth t → ⊥;
+  region_breaks = λ s t b s'. (s' ≡ s) × (Agrees s.vars s.depth t → ⊥);
   on_error = λ s e s'. s' ≡ s;
   error_breaks = λ s e b s'. ⊥;
   on_term = ValidationLooks;
-  term_breaks = λ s t b s'. Agrees s.vars s.depth t → ⊥;
+  term_breaks = λ s t b s'. (s' ≡ s) × (Agrees s.vars s.depth t → ⊥);
   enter = λ s vs next s'. ValidationEnters s next s';
   enter_breaks = λ s vs b s'. ⊥;
   leave = λ s vs s'. s' ≡ record { vars = s.vars; depth = s.depth - 1; seen = s.seen };
 }
 
+-- the same list, and the same number of binders
+abbrev pub IsSamePlace : Validation → Validation → Type 0
+IsSamePlace s s' = (s'.vars ≡ s.vars) × (s'.depth ≡ s.depth)
+
 -- If a visit goes to its end, the indices in the tree are in range and the types that were remembered before agree,
 -- then all variables agree, and so do the types that are remembered afterwards. A new visitor remembers nothing. If a
--- visit breaks, a variable disagrees.
+-- visit breaks, a variable disagrees, and the list and the number of binders are the ones that the visit began with.
 abbrev pub ValidationIsExact : Type 0
 ValidationIsExact = (s s' : Validation) (t : Tree Depth)
     → (GoesOver validate_hooks s t s' → IndicesFit t → SeenAgree s → Agrees s.vars s.depth t × SeenAgree s')
     × ((b : WrongBoundVar) → Breaks validate_hooks s t b s' → Agrees s.vars s.depth t → ⊥)
+    × ((b : WrongBoundVar) → Breaks validate_hooks s t b s' → IsSamePlace s s')

@@ -27,7 +27,7 @@ fn arguments_in<'a>(cx: &'a Interner, view: GenericArgsSlice) -> &'a [GenericArg
     ensures are { AreArguments cx.now.rows result.now }
 {
     let all = view.args().as_slice(cx);
-    span(all, view.start() as usize, view.len() as usize)
+    span(all, view.start() as usize, view.count() as usize)
 }
 
 /// The arguments are the items at the view's places. If the view reaches beyond its list, it ends where the list ends.

@@ -40,6 +40,9 @@ pub struct WrongBoundVar;
 /// binder or of one further out. It remembers which types it entered, and enters a type only once under each number of
 /// binders. If the memory for this is refused, it enters the type again. It skips what is under more binders than an
 /// index can count, since no variable there belongs to this binder.
+///
+/// A visitor that broke is used up, though it has the list and the binder that it began with: the types around the
+/// wrong variable are remembered as entered, so it would skip them.
 #[derive(Drop)]
 pub struct ValidateBoundVars {
     bound_vars: BoundVarKinds,
@@ -285,7 +288,8 @@ impl TypeVisitor for ValidateBoundVars {
 }
 
 /// Does nothing. The contract gives callers the fact that, if all indices in a value's tree are below the greatest, a
-/// visit of the value by a new [`ValidateBoundVars`] breaks exactly if a variable disagrees with the list.
+/// visit of the value by a new [`ValidateBoundVars`] breaks exactly if a variable disagrees with the list. After a break
+/// the visitor has the list and the binder that the visit began with.
 ///
 /// [`stored_indices_fit`](tt_interner::stored_indices_fit) says that the indices in stored terms always are. So only
 /// the indices that the value has beside its handles matter, as in a region.

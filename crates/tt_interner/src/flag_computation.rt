@@ -208,8 +208,8 @@ pub(crate) fn region_info(region: Region) -> FlagComputation
     ensures outer { (f : Meaning) → result.outer_exclusive_binder ≡ outer_binder (fill f (region_shape region)) }
 {
     FlagComputation {
-        flags: region.flags(),
-        outer_exclusive_binder: region.outer_exclusive_binder(),
+        flags: region.kind().flags(),
+        outer_exclusive_binder: region.kind().outer_exclusive_binder(),
     }
 }
 

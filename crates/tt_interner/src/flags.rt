@@ -153,12 +153,12 @@ impl Flags for OutlivesPredicate<GenericArg> {
 
     #[tactic(auto, unfolding(tt_kinds::specs::Shape::fill))]
     fn flags(&self, cx: &Interner) -> TypeFlags {
-        self.0.flags(cx).union(self.1.flags())
+        self.0.flags(cx).union(self.1.flags(cx))
     }
 
     #[tactic(auto, unfolding(tt_kinds::specs::Shape::fill))]
     fn outer_exclusive_binder(&self, cx: &Interner) -> DebruijnIndex {
         let first = self.0.outer_exclusive_binder(cx);
-        first.max(self.1.outer_exclusive_binder())
+        first.max(self.1.outer_exclusive_binder(cx))
     }
 }

@@ -53,13 +53,52 @@ pub enum RegionKind {
 }
 
 impl RegionKind {
-    // Returns whether the index of a bound region is below the greatest, and `true` for every other region.
-    fn is_shallow(&self) -> bool
+    ghost use Rattle.tt_kinds.specs.Shape.{Meaning, fill};
+    ghost use Rattle.tt_kinds.specs.Kinds.{region_shape};
+    ghost use Rattle.tt_kinds.specs.Scan.{scan};
+    ghost use Rattle.tt_kinds.specs.Reading.{outer_binder};
+
+    /// Returns whether the index of a bound region is below the greatest, and `true` for every other region.
+    pub fn is_shallow(&self) -> bool
         ensures { IsTrue result ↔ IsShallow self.now }
     {
         match self {
             RegionKind::ReBound(index, _) => index.is_shallow(),
             _ => true,
+        }
+    }
+
+    /// Returns the flags of a region of this kind. A variable of a canonical query has one flag more than other bound
+    /// regions.
+    #[tactic(auto, unfolding(crate::specs::Shape::fill))]
+    pub fn flags(self) -> TypeFlags
+        ensures { (f : Meaning) → result.bits ≡ scan (fill f (region_shape self)) }
+    {
+        match self {
+            RegionKind::ReEarlyParam(_) => TypeFlags::from_bits_retain(0x20202),
+            RegionKind::ReBound(index, _) => match index {
+                BoundVarIndexKind::Bound(_) => TypeFlags::HAS_RE_BOUND,
+                BoundVarIndexKind::Canonical => TypeFlags::from_bits_retain(0x404_0000),
+            },
+            RegionKind::ReLateParam(_) => TypeFlags::from_bits_retain(0x20200),
+            RegionKind::ReStatic => TypeFlags::HAS_FREE_REGIONS,
+            RegionKind::ReVar(_) => TypeFlags::from_bits_retain(0x20210),
+            RegionKind::RePlaceholder(_) => TypeFlags::from_bits_retain(0x20280),
+            RegionKind::ReErased => TypeFlags::HAS_RE_ERASED,
+            RegionKind::ReError(_) => TypeFlags::from_bits_retain(0x30000),
+        }
+    }
+
+    /// Returns one more than the index of a bound region, and 0 for every other region and for a variable of a
+    /// canonical query. [`RegionKind::is_shallow`] tests the condition, and the kind of a [`Region`] meets it.
+    #[tactic(auto, unfolding(crate::specs::Shape::fill))]
+    pub fn outer_exclusive_binder(self) -> DebruijnIndex
+        requires { IsShallow self }
+        ensures { (f : Meaning) → result ≡ outer_binder (fill f (region_shape self)) }
+    {
+        match self {
+            RegionKind::ReBound(index, _) => index.outer_exclusive_binder(),
+            _ => DebruijnIndex::INNERMOST,
         }
     }
 }
@@ -89,11 +128,8 @@ impl Model for Region {
 
 impl Region {
     ghost use Rattle.tt_kinds.specs.RegionKind.{IsShallow, region_bound_at};
-    ghost use Rattle.tt_kinds.specs.Shape.{Meaning, fill};
     ghost use Rattle.tt_kinds.specs.Kinds.{region_shape};
-    ghost use Rattle.tt_kinds.specs.Scan.{scan};
     ghost use Rattle.tt_kinds.specs.Range.{IndicesFitIn};
-    ghost use Rattle.tt_kinds.specs.Reading.{outer_binder};
 
     /// Returns the region of this kind. Refused with `GreatestIndex` if it is a bound region with the greatest index,
     /// and never otherwise.
@@ -159,37 +195,5 @@ impl Region {
         ensures fit { IndicesFitIn (region_shape self) }
     {
         self.kind.is_shallow()
-    }
-
-    /// Returns the flags of the region. A variable of a canonical query has one flag more than other bound regions.
-    #[tactic(auto, unfolding(crate::specs::Shape::fill))]
-    pub fn flags(self) -> TypeFlags
-        ensures { (f : Meaning) → result.bits ≡ scan (fill f (region_shape self)) }
-    {
-        match self.kind {
-            RegionKind::ReEarlyParam(_) => TypeFlags::from_bits_retain(0x20202),
-            RegionKind::ReBound(index, _) => match index {
-                BoundVarIndexKind::Bound(_) => TypeFlags::HAS_RE_BOUND,
-                BoundVarIndexKind::Canonical => TypeFlags::from_bits_retain(0x404_0000),
-            },
-            RegionKind::ReLateParam(_) => TypeFlags::from_bits_retain(0x20200),
-            RegionKind::ReStatic => TypeFlags::HAS_FREE_REGIONS,
-            RegionKind::ReVar(_) => TypeFlags::from_bits_retain(0x20210),
-            RegionKind::RePlaceholder(_) => TypeFlags::from_bits_retain(0x20280),
-            RegionKind::ReErased => TypeFlags::HAS_RE_ERASED,
-            RegionKind::ReError(_) => TypeFlags::from_bits_retain(0x30000),
-        }
-    }
-
-    /// Returns one more than the index of a bound region, and 0 for every other region and for a variable of a
-    /// canonical query.
-    #[tactic(auto, unfolding(crate::specs::Shape::fill))]
-    pub fn outer_exclusive_binder(self) -> DebruijnIndex
-        ensures { (f : Meaning) → result ≡ outer_binder (fill f (region_shape self)) }
-    {
-        match self.kind {
-            RegionKind::ReBound(index, _) => index.outer_exclusive_binder(),
-            _ => DebruijnIndex::INNERMOST,
-        }
     }
 }

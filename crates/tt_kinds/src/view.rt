@@ -1,6 +1,6 @@
 //! Views: parts of stored lists, without a row of their own.
 
-ghost use Rattle.std.specs.Prelude.{◌≡◌, ◌↔◌, IsTrue};
+ghost use Rattle.std.specs.Prelude.{◌≡◌};
 
 use crate::handle::{GenericArgs, Tys};
 
@@ -59,17 +59,10 @@ impl GenericArgsSlice {
         self.start
     }
 
-    /// Returns the number of arguments.
-    pub fn len(self) -> u32
+    /// Returns the number of places of the view. The list may have fewer arguments from its start on.
+    pub fn count(self) -> u32
         ensures { result ≡ self.len }
     {
         self.len
-    }
-
-    /// Returns whether there are no arguments.
-    pub fn is_empty(self) -> bool
-        ensures { IsTrue result ↔ (self.len ≡ 0) }
-    {
-        self.len == 0
     }
 }

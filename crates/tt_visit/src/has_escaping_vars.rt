@@ -70,10 +70,10 @@ impl TypeVisitor for HasEscapingVarsVisitor {
 
     fn visit_region(
         &mut self,
-        _cx: &Interner,
+        cx: &Interner,
         region: Region,
     ) -> ControlFlow<FoundEscapingVars, ()> {
-        if self.found(region.outer_exclusive_binder()) {
+        if self.found(region.outer_exclusive_binder(cx)) {
             ControlFlow::Break(FoundEscapingVars)
         } else {
             ControlFlow::Continue(())
@@ -171,10 +171,10 @@ impl TypeVisitor for InRangeVisitor {
 
     fn visit_region(
         &mut self,
-        _cx: &Interner,
+        cx: &Interner,
         region: Region,
     ) -> ControlFlow<FoundEscapingVars, ()> {
-        let _fits = region.outer_exclusive_binder().as_u32();
+        let _fits = region.outer_exclusive_binder(cx).as_u32();
         ControlFlow::Continue(())
     }
 

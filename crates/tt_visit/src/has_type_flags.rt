@@ -44,8 +44,8 @@ impl TypeVisitor for HasTypeFlagsVisitor {
 
     ghost hooks = { flag_hooks };
 
-    fn visit_region(&mut self, _cx: &Interner, region: Region) -> ControlFlow<FoundFlags, ()> {
-        if self.flags.intersects(region.flags()) {
+    fn visit_region(&mut self, cx: &Interner, region: Region) -> ControlFlow<FoundFlags, ()> {
+        if self.flags.intersects(region.flags(cx)) {
             ControlFlow::Break(FoundFlags)
         } else {
             ControlFlow::Continue(())

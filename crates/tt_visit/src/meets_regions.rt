@@ -103,8 +103,8 @@ impl TypeVisitor for MeetsRegionsVisitor {
 
     ghost hooks = { meets_hooks };
 
-    fn visit_region(&mut self, _cx: &Interner, region: Region) -> ControlFlow<MetRegion, ()> {
-        match self.meets_by_info(region.flags(), region.outer_exclusive_binder()) {
+    fn visit_region(&mut self, cx: &Interner, region: Region) -> ControlFlow<MetRegion, ()> {
+        match self.meets_by_info(region.flags(cx), region.outer_exclusive_binder(cx)) {
             ControlFlow::Continue(Next::Skip) => ControlFlow::Continue(()),
             // the region itself is the variable that is bound outside
             ControlFlow::Continue(Next::Descend) => ControlFlow::Break(MetRegion),
@@ -177,8 +177,8 @@ impl TypeVisitor for RegionsInRangeVisitor {
 
     ghost hooks = { region_range_hooks };
 
-    fn visit_region(&mut self, _cx: &Interner, region: Region) -> ControlFlow<MetRegion, ()> {
-        let _fits = region.outer_exclusive_binder().as_u32();
+    fn visit_region(&mut self, cx: &Interner, region: Region) -> ControlFlow<MetRegion, ()> {
+        let _fits = region.outer_exclusive_binder(cx).as_u32();
         ControlFlow::Continue(())
     }
 

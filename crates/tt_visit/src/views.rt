@@ -78,7 +78,7 @@ impl InternedView for GenericArgsSlice {
     fn as_slice<'a>(self, cx: &'a Interner) -> &'a [GenericArg] {
         cx.are_rows();
         let all = self.args().as_slice(cx);
-        span(all, self.start() as usize, self.len() as usize)
+        span(all, self.start() as usize, self.count() as usize)
     }
 }
 
@@ -95,7 +95,7 @@ impl TypeVisitable for GenericArgsSlice {
     ) -> ControlFlow<V::Break, ()> {
         cx.are_rows();
         let list = self.args().as_slice(cx);
-        let arguments = span(list, self.start() as usize, self.len() as usize);
+        let arguments = span(list, self.start() as usize, self.count() as usize);
         visit_values(cx, visitor, arguments)
     }
 }

@@ -28,11 +28,7 @@ fn viewed_at(
     place: usize,
 ) -> Option<(usize, bool, Option<GenericArg>)> {
     if own.is_owned(cx) {
-        Some((
-            SliceLike::len(own, cx),
-            SliceLike::is_empty(own, cx),
-            SliceLike::get(own, cx, place),
-        ))
+        Some((own.len(cx), own.is_empty(cx), own.get(cx, place)))
     } else {
         None
     }

@@ -28,6 +28,6 @@ impl Interner {
         if !self.owns(list) {
             return false;
         }
-        view.start() as usize + view.len() as usize <= list.as_slice(self).len()
+        view.start() as usize + view.count() as usize <= list.as_slice(self).len()
     }
 }

@@ -89,8 +89,7 @@ fn views_are_read() -> bool {
     let view = GenericArgsSlice::from_parts(args, 2, 3);
     view.args() == args
         && view.start() == 2
-        && view.len() == 3
-        && !view.is_empty()
+        && view.count() == 3
         && GenericArgsSlice::from_parts(args, 2, 0).is_empty()
 }
 

@@ -100,8 +100,8 @@ fn regions_are_read() -> Result<bool, Refusal> {
         let region = Region::new(kind)?;
         if region.kind() != kind
             || !region.in_range()
-            || region.flags().bits() != flags
-            || region.outer_exclusive_binder().as_u32() != outer
+            || region.kind().flags().bits() != flags
+            || region.kind().outer_exclusive_binder().as_u32() != outer
         {
             return Ok(false);
         }

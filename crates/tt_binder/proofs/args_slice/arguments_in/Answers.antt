@@ -9,7 +9,7 @@ pub returns-clause-items : goal.returns-clause-items
 returns-clause-items c =
     let there : args_at c.args.cx.now.rows c.args.view.args ≡ c.as_slice-all.result.now =
     ap (args_at c.args.cx.now.rows) (sym c.args-2.ensures) ∙ ap row_args c.as_slice-all.ensures.row in
-    rw (c.span.ensures, c.start.ensures, c.len.ensures, there) refl
+    rw (c.span.ensures, c.start.ensures, c.count.ensures, there) refl
 
 pub returns-clause-are : goal.returns-clause-are
 returns-clause-are c =

@@ -33,6 +33,7 @@ returns-in_err-value g c =
         commutes = tt;
         matched = tt;
         closed = tt;
+        answered = tt;
         no_cause = tt;
         err = c.in_err-value.ensures.result;
         same = λ h. err_ok _ _ (c.in_err-value.ensures.same h).0;
@@ -62,6 +63,7 @@ returns g c = rw (c.new.ensures, ← c.skip_binder.ensures) (record {
     commutes = commutes (arguments c.args.cx.now.rows (g.S.SliceLike.items c.args.cx.now.rows c.args.args)) (tree_by g.T.TypeVisitable.shape c.args.cx.now.rows c.skip_binder.result) (tree_by g.T.TypeVisitable.shape c.instantiate_value.new.cx.rows c.in_ok-value.value) c.in_ok-value.ensures.result.1;
     matched = stays_matched (arguments c.args.cx.now.rows (g.S.SliceLike.items c.args.cx.now.rows c.args.args)) (tree_by g.T.TypeVisitable.shape c.args.cx.now.rows c.skip_binder.result) (tree_by g.T.TypeVisitable.shape c.instantiate_value.new.cx.rows c.in_ok-value.value) c.in_ok-value.ensures.result.1;
     closed = leaves_no_param (arguments c.args.cx.now.rows (g.S.SliceLike.items c.args.cx.now.rows c.args.args)) (tree_by g.T.TypeVisitable.shape c.args.cx.now.rows c.skip_binder.result) (tree_by g.T.TypeVisitable.shape c.instantiate_value.new.cx.rows c.in_ok-value.value) c.in_ok-value.ensures.result.1;
+    answered = c.in_ok-value.ensures.result.1.answered;
     no_cause = c.in_ok-value.ensures.result.1.no_cause;
     err = tt;
     same = λ h. let same = c.in_ok-value.ensures.same h in back same.0 same.1;

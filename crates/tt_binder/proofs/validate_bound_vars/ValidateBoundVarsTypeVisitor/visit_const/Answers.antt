@@ -26,7 +26,7 @@ returns-else-is_valid_const-clause-result c =
     let rows = c.args.cx.now.rows in
     let self = c.args.self.now in
     let same = const_variable_tree rows c.args.constant c.kind.result.now c.in-Bound.index c.in-Bound.variable c.are_rows.ensures.are c.kind.ensures.row c.in-Bound.is in
-    same_wrong (vars_at rows self.bound_vars) self.binder_index (tree_in rows (const_shape c.args.constant)) _ same (told_no _ c.is_valid_const.result c.if-is_valid_const.false c.is_valid_const.ensures)
+    (refl, same_wrong (vars_at rows self.bound_vars) self.binder_index (tree_in rows (const_shape c.args.constant)) _ same (told_no _ c.is_valid_const.result c.if-is_valid_const.false c.is_valid_const.ensures))
 
 pub returns-in_default : goal.returns-in_default
 returns-in_default c =

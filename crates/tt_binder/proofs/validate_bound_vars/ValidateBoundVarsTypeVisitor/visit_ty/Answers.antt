@@ -28,7 +28,7 @@ returns-else-is_valid_ty-clause-result c =
     let rows = c.args.cx.now.rows in
     let self = c.args.self.now in
     let same = ty_variable rows c.args.ty c.kind.result.now c.in-Bound.index c.in-Bound.variable c.are_rows.ensures.are c.kind.ensures.row c.in-Bound.is in
-    same_wrong (vars_at rows self.bound_vars) self.binder_index (tree_in rows (ty_shape c.args.ty)) _ same (told_no _ c.is_valid_ty.result c.if-is_valid_ty.false c.is_valid_ty.ensures)
+    (refl, same_wrong (vars_at rows self.bound_vars) self.binder_index (tree_in rows (ty_shape c.args.ty)) _ same (told_no _ c.is_valid_ty.result c.if-is_valid_ty.false c.is_valid_ty.ensures))
 
 pub returns-in_default : goal.returns-in_default
 returns-in_default c =

@@ -8,5 +8,5 @@ use Rattle.tt_visit.proofs.meets_regions.MeetsRegionsVisitorTypeVisitor.visit_re
 
 pub returns-in-Continue-Descend-clause-result : goal.returns-in-Continue-Descend-clause-result
 returns-in-Continue-Descend-clause-result c =
-    let told = c.in-Continue-Descend.ensures (fill (meaning c.args._cx.now.rows) (region_shape c.args.region)) (c.flags.ensures (meaning c.args._cx.now.rows)) (c.outer_exclusive_binder.ensures (meaning c.args._cx.now.rows)) in
+    let told = c.in-Continue-Descend.ensures (fill (meaning c.args.cx.now.rows) (region_shape c.args.region)) c.flags.ensures c.outer_exclusive_binder.ensures in
     (refl, region-met _ _ (root-region _ _) (rw c.in-Continue-Descend.field-0-is at told).2)

@@ -3,7 +3,7 @@ use Rattle.std.proofs.lemmas.List.{length-set}
 use Rattle.tt_kinds.specs.Kinds.{ty_shape}
 use Rattle.tt_interner.proofs.Growth.{Extends-trans}
 use Rattle.tt_interner.proofs.OwnedLaws.{get_owned, set_owned, list_still_owned}
-use Rattle.fold_tests.proofs.tests.bindings.shift_all.Goals as goal
+use Rattle.guide_tests.proofs.tests.bindings.shift_all.Goals as goal
 
 pub shift_vars-requires : goal.shift_vars-requires
 shift_vars-requires c =

@@ -1,7 +1,7 @@
 use Rattle.tt_kinds.specs.Kinds.{ty_shape}
 use Rattle.tt_kinds.specs.Values.{option_shape}
 use Rattle.tt_interner.proofs.OwnedLaws.{get_owned, some_owned}
-use Rattle.fold_tests.proofs.tests.resolver.ResolverTypeReplacer.replace_ty.Goals as goal
+use Rattle.guide_tests.proofs.tests.resolver.ResolverTypeReplacer.replace_ty.Goals as goal
 
 pub returns-in-Some-Some-clause-result : goal.returns-in-Some-Some-clause-result
 returns-in-Some-Some-clause-result c =
