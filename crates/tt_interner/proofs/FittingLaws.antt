@@ -1,5 +1,5 @@
 -- Which values of an interner fit, by its rows.
-use Rattle.std.proofs.Common.{inl, inr, ◌≡◌, ℕ, ◌+◌, ◌*◌, ◌<◌, ◌≤◌, List, [], ◌∷◌, refl, arith}
+use Rattle.std.proofs.Common.{inl, inr, ◌≡◌, ℕ, ◌+◌, ◌<◌, ◌≤◌, List, [], ◌∷◌, refl, arith}
 use Rattle.tt_index.specs.Greatest.{greatest}
 use Rattle.tt_kinds.specs.Label.{Sort, Label, type_label, const_label, type_sort, const_sort}
 use Rattle.tt_kinds.specs.Reading.{read, FitsUnder}
@@ -24,6 +24,7 @@ use Rattle.tt_interner.specs.Rows.{Row, type_row, const_row, pat_row, predicate_
 use Rattle.tt_interner.specs.Rows.{tys_row, consts_row, args_row, pats_row, vars_row, existentials_row, assumptions_row}
 use Rattle.tt_interner.specs.Rows.{text_row, declared_row, defined_row, row_table, row_shape, table, size, meaning}
 use Rattle.tt_interner.specs.Rows.{AreRows}
+use Rattle.tt_interner.specs.Fitting.{nesting_bound}
 use Rattle.tt_interner.proofs.DefinitionShapes.{definition-unbound}
 use Rattle.tt_interner.proofs.RowLaws.{IsNewest, place_cases, size-more, meaning-old, meaning-new}
 use Rattle.tt_interner.proofs.TableLaws.{size_own}
@@ -48,10 +49,6 @@ value_indices-fit rows s are part fits = part-fits (size rows) (meaning rows) (s
 pub value-fits : (rows : List Row) (s : Shape) → AreRows rows → IsPart (size rows) s → IndicesFitIn s → BindersFit 0 (fill (meaning rows) s) → FitsUnder 0 (read 0 (fill (meaning rows) s))
 value-fits rows s are part fits binders = tree-fits 0 (fill (meaning rows) s) (value_indices-fit rows s are part fits) binders
 
--- how many rows there are that may have a binder
-abbrev binding : List Row → ℕ
-binding rows = size rows Types + size rows Predicates + size rows Existentials
-
 form-binders : (s : Sort) (k : Form (Label ℕ)) → binders_in (form_shape s k) ≤ 1
 form-binders s (param i name) = omega arith
 form-binders s (bound d e) = omega arith
@@ -73,11 +70,11 @@ const-unbound (const.Error e) = refl
 const-unbound (const.Expr e) = refl
 
 -- each row has at most one binder, and none but in those tables
-row-binding : (r : Row) (rows : List Row) → binders_in (row_shape r) + binding rows ≤ binding (r ∷ rows)
+row-binding : (r : Row) (rows : List Row) → binders_in (row_shape r) + nesting_bound rows ≤ nesting_bound (r ∷ rows)
 row-binding r rows = own r (size-more r rows Types) (size-more r rows Predicates) (size-more r rows Existentials) (size_own r rows)
   where
     own : (q : Row) → size rows Types ≤ size (q ∷ rows) Types → size rows Predicates ≤ size (q ∷ rows) Predicates → size rows Existentials ≤ size (q ∷ rows) Existentials
-        → size (q ∷ rows) (row_table q) ≡ size rows (row_table q) + 1 → binders_in (row_shape q) + binding rows ≤ binding (q ∷ rows)
+        → size (q ∷ rows) (row_table q) ≡ size rows (row_table q) + 1 → binders_in (row_shape q) + nesting_bound rows ≤ nesting_bound (q ∷ rows)
     own (type_row k) a b c more = let one = form-binders type_sort (relabelled type_label (ty_form k)) in omega arith
     own (const_row k) a b c more = let none_has = const-unbound k in omega arith
     own (pat_row k) a b c more = let none_has = parts-unbound (pattern_form k).parts in omega arith
@@ -95,18 +92,16 @@ row-binding r rows = own r (size-more r rows Types) (size-more r rows Predicates
     own (declared_row n d) a b c more = let none_has : binders_among (declared_shapes d.kind) ≡ 0 = declared_by (λ ss. binders_among ss ≡ 0) refl (λ vars tys. refl) d.kind in omega arith
     own (defined_row n vs) a b c more = let none_has = definition-unbound vs in omega arith
 
-stored-binders : (rows : List Row) → AreRows rows → (k : ℕ) (t : Table) (n : ℕ) → n < size rows t → k + binding rows ≤ greatest → BindersFit k (meaning rows t n)
+stored-binders : (rows : List Row) → AreRows rows → (k : ℕ) (t : Table) (n : ℕ) → n < size rows t → k + nesting_bound rows ≤ greatest → BindersFit k (meaning rows t n)
 unfolding table AreRows
 stored-binders [] are k t n h low = absurd (omega (arith, h))
 stored-binders (r ∷ rows) are k t n h low = elim (place_cases r rows t n h) [
   | inl old ↦ rw (meaning-old r rows t n old) (stored-binders rows are.4 k t n old (let more = row-binding r rows in omega arith))
   | inr at ↦ rw (newest r rows t n at)
-      (row-binders (size rows) (meaning rows) (binding rows) (stored-binders rows are.4) k (row_shape r) are.0 (let more = row-binding r rows in omega arith))
+      (row-binders (size rows) (meaning rows) (nesting_bound rows) (stored-binders rows are.4) k (row_shape r) are.0 (let more = row-binding r rows in omega arith))
 ]
 
 -- few rows nest few binders
-pub few_rows-fit : (rows : List Row) (limit k : ℕ) (s : Shape) → AreRows rows → ((t : Table) → size rows t ≤ limit) → IsPart (size rows) s
-    → k + binders_in s + 3 * limit ≤ greatest → BindersFit k (fill (meaning rows) s)
-few_rows-fit rows limit k s are within part low =
-    let types = within Types in let predicates = within Predicates in let existentials = within Existentials in
-    part-binders (size rows) (meaning rows) (binding rows) (stored-binders rows are) k s part (omega arith)
+pub few_rows-fit : (rows : List Row) (k : ℕ) (s : Shape) → AreRows rows → IsPart (size rows) s → k + binders_in s + nesting_bound rows ≤ greatest
+    → BindersFit k (fill (meaning rows) s)
+few_rows-fit rows k s are part low = part-binders (size rows) (meaning rows) (nesting_bound rows) (stored-binders rows are) k s part low

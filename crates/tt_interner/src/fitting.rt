@@ -14,10 +14,9 @@ pub fn stored_values_fit()
     ensures { StoredFit }
 {}
 
-/// Does nothing. The contract gives callers the fact that a value's binders aren't nested too deep if three times the
-/// limit of rows, with the value's own binders and those around it, is at most the greatest index.
-/// [`Interner::are_rows`](crate::Interner::are_rows) says that no table has more rows than the limit. The limit of
-/// [`Interner::new`](crate::Interner::new) is too great for this law.
+/// Does nothing. The contract gives callers the fact that a value's binders aren't nested too deep if the interner's
+/// [`nesting_bound`](crate::Interner::nesting_bound), with the value's own binders and those around it, is at most the
+/// greatest index.
 pub fn few_rows_fit()
     ensures { FewRowsFit }
 {}

@@ -17,6 +17,7 @@ mod definitions;
 mod empty_lists;
 mod existentials;
 mod info;
+mod nesting;
 mod owns;
 mod owns_handles;
 mod owns_ids;

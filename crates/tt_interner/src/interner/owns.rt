@@ -18,7 +18,7 @@ use tt_kinds::{
 impl Interner {
     // Returns the number of rows of a table.
     #[inline(always)]
-    fn table_len(&self, table: Table) -> usize
+    pub(super) fn table_len(&self, table: Table) -> usize
         ensures { result ≡ size self.now.rows table }
     {
         match table {
