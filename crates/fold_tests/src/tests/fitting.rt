@@ -5,11 +5,12 @@ ghost use Rattle.std.specs.Prelude.{◌≡◌, ◌≢◌, ◌⊎◌, ◌≤◌, 
 ghost use Rattle.tt_kinds.specs.Kinds.{ty_shape};
 ghost use Rattle.tt_kinds.specs.Label.{type_sort};
 ghost use Rattle.tt_kinds.specs.Reading.{outer_binder};
+ghost use Rattle.tt_interner.specs.Fitting.{nesting_bound};
 ghost use Rattle.tt_interner.specs.Owned.{IsOwned};
 ghost use Rattle.tt_fold.specs.Steps.{tree_in};
 ghost use Rattle.tt_binder.specs.Unpruned.{GivesUnpruned, HoldsNoRegionVar};
 
-use super::holds_within;
+use super::holds_anew;
 use super::sharing::bound_ref;
 use type_terms::{
     EarlyBinder, Flags, GenericArg, Instantiate, Interner, Refusal, Ty, TyKind, TypeVisitableExt,
@@ -17,8 +18,8 @@ use type_terms::{
     stored_indices_fit,
 };
 
-// An interner whose tables have at most this many rows nests no binder too deep.
-const MOST_ROWS: u32 = 100_000_000;
+// An interner whose nesting bound is at most this nests no binder too deep.
+const MOST_NESTED: u64 = 1_000_000_000;
 
 // A type whose outer exclusive binder is at most this has room to be moved.
 const MOST_BINDERS: u32 = 1_000_000;
@@ -26,7 +27,7 @@ const MOST_BINDERS: u32 = 1_000_000;
 // Returns the type, moved into one new binder. It is never refused with the greatest index.
 fn in_a_binder(cx: &mut Interner, ty: Ty) -> Result<Ty, Refusal>
     requires ty { IsOwned ty_shape cx.old ty }
-    requires few { cx.old.limit ≤ 100000000 }
+    requires few { nesting_bound cx.old.rows ≤ 1000000000 }
     requires low { outer_binder (tree_in cx.old.rows (ty_shape ty)) ≤ 1000000 }
     ensures { IfErr result (λ e. (e ≡ Refusal.Memory) ⊎ (e ≡ Refusal.TableFull)) }
 {
@@ -40,7 +41,7 @@ fn in_a_binder(cx: &mut Interner, ty: Ty) -> Result<Ty, Refusal>
 fn a_type_is_moved_holds(cx: &mut Interner) -> Result<bool, Refusal> {
     let near = bound_ref(cx, 0)?;
     let far = bound_ref(cx, 1)?;
-    if cx.limit() > MOST_ROWS || !cx.owns(near) {
+    if cx.nesting_bound() > MOST_NESTED || !cx.owns(near) {
         return Ok(false);
     }
     if near.outer_exclusive_binder(cx).as_u32() > MOST_BINDERS {
@@ -52,7 +53,7 @@ fn a_type_is_moved_holds(cx: &mut Interner) -> Result<bool, Refusal> {
 
 #[test]
 fn a_type_is_moved(rt: HostRuntime) {
-    holds_within(&rt, rt.alloc(), MOST_ROWS, a_type_is_moved_holds);
+    holds_anew(&rt, rt.alloc(), a_type_is_moved_holds);
 }
 
 // Returns the type with the argument for its first parameter. The result is what a walk gives that skips nothing and uses
@@ -60,7 +61,7 @@ fn a_type_is_moved(rt: HostRuntime) {
 fn walked(cx: &mut Interner, ty: Ty, argument: Ty) -> Result<Ty, Refusal>
     requires ty { IsOwned ty_shape cx.old ty }
     requires argument { IsOwned ty_shape cx.old argument }
-    requires few { cx.old.limit ≤ 100000000 }
+    requires few { nesting_bound cx.old.rows ≤ 1000000000 }
     requires low { outer_binder (tree_in cx.old.rows (ty_shape argument)) ≤ 1000000 }
     requires lacks { HoldsNoRegionVar (tree_in cx.old.rows (ty_shape ty)) }
     ensures whole { IfOk result (λ instance. GivesUnpruned (λ e. false)
@@ -86,7 +87,7 @@ fn a_slice_is_walked_holds(cx: &mut Interner) -> Result<bool, Refusal> {
     let argument = cx.mk_ty(TyKind::Bool)?;
     let wanted = cx.mk_ty(TyKind::Slice(argument))?;
     let binders = argument.outer_exclusive_binder(cx).as_u32();
-    if cx.limit() > MOST_ROWS || binders > MOST_BINDERS {
+    if cx.nesting_bound() > MOST_NESTED || binders > MOST_BINDERS {
         return Ok(false);
     }
     if slice.has_infer_regions(cx) {
@@ -98,5 +99,5 @@ fn a_slice_is_walked_holds(cx: &mut Interner) -> Result<bool, Refusal> {
 
 #[test]
 fn a_slice_is_walked(rt: HostRuntime) {
-    holds_within(&rt, rt.alloc(), MOST_ROWS, a_slice_is_walked_holds);
+    holds_anew(&rt, rt.alloc(), a_slice_is_walked_holds);
 }

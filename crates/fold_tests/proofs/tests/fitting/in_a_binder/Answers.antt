@@ -30,5 +30,5 @@ pub returns : goal.returns
 returns c =
     let rows = c.args.cx.now.rows in
     let few = c.requires.few in
-    let binders = c.few_rows_fit.ensures rows 100000000 1000001 (ty_shape c.args.ty) c.are_rows.ensures.are (λ t. let within = c.are_rows.ensures.within t in omega arith) c.requires.ty (omega arith) in
+    let binders = c.few_rows_fit.ensures rows 1000001 (ty_shape c.args.ty) c.are_rows.ensures.are c.requires.ty (omega arith) in
     for_room _ _ (tree_in rows (ty_shape c.args.ty)) (c.moved_trees_fit.ensures 1 1000000 (tree_in rows (ty_shape c.args.ty)) c.requires.low (omega arith) binders) c.shift_vars.ensures.err

@@ -46,7 +46,7 @@ returns-clause-whole c =
     let rows = c.args.cx.now.rows in
     let s = ty_shape c.args.ty in
     let few = c.requires.few in
-    let binders = c.few_rows_fit.ensures rows 100000000 0 s c.are_rows.ensures.are (λ t. let within = c.are_rows.ensures.within t in omega arith) c.requires.ty (omega arith) in
+    let binders = c.few_rows_fit.ensures rows 0 s c.are_rows.ensures.are c.requires.ty (omega arith) in
     let argument : Argument Depth = record { sort = type_sort; value = tree_in rows (ty_shape c.args.argument) } in
     let unseen = c.pruning_is_unseen.ensures rows (argument ∷ []) s c.are_rows.ensures.are c.requires.ty (some_one argument) c.requires.lacks tt binders in
     (unseen.gives (λ e. false) _).1 (plain_at _ _ c.args.argument _ _ _ _ _ c.in_ok-instance.ensures.promise.plain (search rules) (search rules) (search rules), heeds_none _)
@@ -60,10 +60,10 @@ returns-in_err-instance-clause-fits c =
     let u = tree_in rows (ty_shape c.args.argument) in
     let room : HasRoom 1000000000 u = record {
       reaches = omega arith;
-      binders = λ k h. c.few_rows_fit.ensures rows 100000000 (k + outer_binder u) (ty_shape c.args.argument) c.are_rows.ensures.are (λ t'. let w = c.are_rows.ensures.within t' in omega arith) c.requires.argument (omega arith);
+      binders = λ k h. c.few_rows_fit.ensures rows (k + outer_binder u) (ty_shape c.args.argument) c.are_rows.ensures.are c.requires.argument (omega arith);
     } in
     let indices = c.stored_indices_fit.ensures rows (ty_shape c.args.ty) c.are_rows.ensures.are c.requires.ty tt in
-    let binders = c.few_rows_fit.ensures rows 100000000 1000000000 (ty_shape c.args.ty) c.are_rows.ensures.are (λ t'. let w = c.are_rows.ensures.within t' in omega arith) c.requires.ty (omega arith) in
+    let binders = c.few_rows_fit.ensures rows 1000000000 (ty_shape c.args.ty) c.are_rows.ensures.are c.requires.ty (omega arith) in
     let argument : Argument Depth = record { sort = type_sort; value = u } in
     let fits = c.instances_fit.ensures 1000000000 (argument ∷ []) t indices binders (omega arith) (room, tt) in
     let p = err_from_is_err_and c.from_residual.result c.from_residual.ensures.1 in
