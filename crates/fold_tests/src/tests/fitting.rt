@@ -19,7 +19,7 @@ use type_terms::{
 };
 
 // An interner whose nesting bound is at most this nests no binder too deep.
-const MOST_NESTED: u64 = 1_000_000_000;
+const MOST_NESTED: u64 = 300_000_000;
 
 // A type whose outer exclusive binder is at most this has room to be moved.
 const MOST_BINDERS: u32 = 1_000_000;
@@ -27,7 +27,7 @@ const MOST_BINDERS: u32 = 1_000_000;
 // Returns the type, moved into one new binder. It is never refused with the greatest index.
 fn in_a_binder(cx: &mut Interner, ty: Ty) -> Result<Ty, Refusal>
     requires ty { IsOwned ty_shape cx.old ty }
-    requires few { nesting_bound cx.old.rows ≤ 1000000000 }
+    requires few { nesting_bound cx.old.rows ≤ 300000000 }
     requires low { outer_binder (tree_in cx.old.rows (ty_shape ty)) ≤ 1000000 }
     ensures { IfErr result (λ e. (e ≡ Refusal.Memory) ⊎ (e ≡ Refusal.TableFull)) }
 {
@@ -61,7 +61,7 @@ fn a_type_is_moved(rt: HostRuntime) {
 fn walked(cx: &mut Interner, ty: Ty, argument: Ty) -> Result<Ty, Refusal>
     requires ty { IsOwned ty_shape cx.old ty }
     requires argument { IsOwned ty_shape cx.old argument }
-    requires few { nesting_bound cx.old.rows ≤ 1000000000 }
+    requires few { nesting_bound cx.old.rows ≤ 300000000 }
     requires low { outer_binder (tree_in cx.old.rows (ty_shape argument)) ≤ 1000000 }
     requires lacks { HoldsNoRegionVar (tree_in cx.old.rows (ty_shape ty)) }
     ensures whole { IfOk result (λ instance. GivesUnpruned (λ e. false)
