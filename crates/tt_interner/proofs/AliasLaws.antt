@@ -79,9 +79,9 @@ joined_built old new alias both n xs parent args b own = λ firsts items at at'.
     put_together n xs firsts items both.1 (same_list new.rows firsts (take n xs) both.0.args.number at b.stored.stored) (same_list new.rows items xs alias.args.number at' kept) start len
 
 joined : (old new : Terms) (alias : AliasTy) (both : TraitRef × GenericArgsSlice) (n : ℕ) (xs : List GenericArgKind) (parent : Id Trait) → TraitArgs old.rows alias parent n xs
-    → BuildsCollected (Ok both) (λ (h : TraitRef × GenericArgsSlice). h.0.args.number) old new (args_row (take n xs)) → IsOwnArgs old.rows alias both.0.def_id both.1 → AreJoined new.rows alias both.0 both.1
+    → BuildsCollected (Ok both) (λ (h : TraitRef × GenericArgsSlice). h.0.args.number) old new args_row (take n xs) → IsOwnArgs old.rows alias both.0.def_id both.1 → AreJoined new.rows alias both.0 both.1
 joined old new alias both n xs parent args (inl b) own = joined_built old new alias both n xs parent args b own
-joined old new alias both n xs parent args (inr m) own = absurd (let never = m.0 in cc)
+joined old new alias both n xs parent args (inr m) own = absurd (let never = m.0.1 in cc)
 
 -- the first arguments and the own ones are all
 pub joins : JoinsTraitArgs

@@ -45,7 +45,7 @@ pub record ReplacesSelfTy {H : Type 0} (result : Result H Refusal) (number : H �
     (args : GenericArgs) (ty : Ty) : Type 0 where
   pub items : List GenericArgKind
   pub stored : IsAt old.rows (args_row items) args.number
-  pub builds : BuildsCollected result number old new (args_row (with_self_ty ty items))
+  pub builds : BuildsCollected result number old new args_row (with_self_ty ty items)
 
 -- the alias is a projection, and its id names a declared associated type
 abbrev pub HasTraitDefId : List Row → AliasTyKind → Type 0
@@ -93,7 +93,7 @@ pub record BuildsTraitRef {H : Type 0} (result : Result H Refusal) (trait_ref : 
   pub items : List GenericArgKind
   pub args : TraitArgs old.rows alias parent params items
   pub of_trait : IfOk result (λ h. (trait_ref h).def_id ≡ parent)
-  pub builds : BuildsCollected result (λ h. (trait_ref h).args.number) old new (args_row (take params items))
+  pub builds : BuildsCollected result (λ h. (trait_ref h).args.number) old new args_row (take params items)
 
 -- the arguments at the view's places, from the arguments of its list
 abbrev pub viewed : List GenericArgKind → GenericArgsSlice → List GenericArgKind

@@ -7,7 +7,7 @@ use denote.RattleType.{RattleType}
 use Rattle.tt_index.specs.declared.refusal.Refusal.{Refusal}
 use Rattle.tt_index.specs.declared.refusal.Refusal.TheVariants.{Memory}
 use Rattle.tt_interner.specs.Rows.{Row}
-use Rattle.tt_interner.specs.Stored.{Terms, Builds, most_in_place}
+use Rattle.tt_interner.specs.Stored.{Terms, Builds, LacksItems, most_in_place}
 
 -- as many items as are collected without allocation fit into memory side by side, as they do in any Rust array
 abbrev pub FewFit : RattleType → Type 0
@@ -32,9 +32,12 @@ abbrev pub Fills : {I A : Type 0} → (I → Option A → I → Type 0) → I �
 Fills {I} gives it rest places count next =
     MatchOption next (Drains gives it (take count places)) (λ item. YieldsThen gives it places (Some item) rest)
 
--- the row is built, or memory to collect its items is refused, and nothing changes
-abbrev pub BuildsCollected : {H : Type 0} → Result H Refusal → (H → ℕ) → Terms → Terms → Row → Type 0
-BuildsCollected result number old new row = Builds result number old new row ⊎ ((result ≡ Err Memory) × (new ≡ old))
+-- the result is the list of these items, as a building call returns it, or `Memory` for more items than `most_in_place`,
+-- and nothing changes
+abbrev pub BuildsCollected : {H A : Type 0} → Result H Refusal → (H → ℕ) → Terms → Terms → (List A → Row) → List A
+    → Type 0
+BuildsCollected result number old new row items =
+    Builds result number old new (row items) ⊎ (LacksItems result items × (new ≡ old))
 
 -- the result is the list of all items, as a building call returns it, or `Memory` for more items than `most_in_place`
 abbrev pub BuildsFrom : {H I A : Type 0} → Result H Refusal → (H → ℕ) → Terms → Terms → (List A → Row)

@@ -35,8 +35,9 @@ ghost use Rattle.tt_interner.specs.Alias.{
 };
 ghost use Rattle.tt_interner.specs.Collect.{BuildsFrom};
 ghost use Rattle.tt_interner.specs.Rows.{args_row, size, type_row};
-ghost use Rattle.tt_interner.specs.Stored.{Builds, Extends};
+ghost use Rattle.tt_interner.specs.Stored.{Builds, Extends, most_in_place};
 
+use crate::children::MOST_IN_PLACE;
 use crate::handle::InternedList;
 use crate::interner::Interner;
 use std::alloc::Global;
@@ -89,8 +90,9 @@ pub trait InternedAlias: Sized {
     /// [`Interner::owns_ty`] test it.
     ///
     /// Refused with `TableFull` if the list of the arguments is new and the table has as many rows as it may have, and
-    /// with `Memory`. The arguments are collected in a vector before their list is looked up, so `Memory` is possible
-    /// even for a list that is stored already.
+    /// with `Memory`. Up to eight arguments are collected in place, so a list of them that is stored already is found
+    /// without allocation. More are collected in a vector before their list is looked up, so `Memory` is possible even
+    /// for a list that is stored already.
     fn with_replaced_self_ty(self, cx: &mut Interner, self_ty: Ty) -> Result<Self, Refusal>
         requires args { (alias self).args.number < size cx.old.rows ArgLists }
         requires self_ty { self_ty.number < size cx.old.rows Types }
@@ -124,7 +126,8 @@ pub trait InternedAlias: Sized {
     /// associated type's own. There has to be an argument for each parameter; [`InternedAlias::has_trait_args`] tests
     /// it.
     ///
-    /// Refused as [`InternedAlias::with_replaced_self_ty`] is.
+    /// Refused as [`InternedAlias::with_replaced_self_ty`] is; only the arguments for the trait's parameters are
+    /// collected.
     fn trait_ref_and_own_args(
         self,
         cx: &mut Interner,
@@ -152,6 +155,28 @@ fn first_type(items: &[GenericArg]) -> Option<Ty>
     }
 }
 
+// Returns places of which the first ones hold the arguments, at most eight.
+fn in_place(args: &[GenericArg]) -> [GenericArg; MOST_IN_PLACE]
+    requires { length args.now ≤ most_in_place }
+    ensures { take (length args.now) result ≡ args.now }
+{
+    let mut places = [GenericArg::from(Ty::from_number(0)); MOST_IN_PLACE];
+    places[..args.len()].copy_from_slice(args);
+    places
+}
+
+// Returns places of which the first ones hold the arguments, at most eight, with the type in place of the first, and
+// how many places these are.
+fn replaced_in_place(all: &[GenericArg], self_ty: Ty) -> ([GenericArg; MOST_IN_PLACE], usize)
+    requires { length all.now ≤ most_in_place }
+    ensures within { result.1 ≤ most_in_place }
+    ensures items { take result.1 result.0 ≡ with_self_ty self_ty all.now }
+{
+    let mut places = in_place(all);
+    places[0] = GenericArg::from(self_ty);
+    (places, all.len().max(1))
+}
+
 // Returns the arguments with the type in place of the first.
 fn replaced(alloc: Global, all: &[GenericArg], self_ty: Ty) -> Result<Vec<GenericArg>, Refusal>
     ensures items { IfOk result (λ items. items.items ≡ with_self_ty self_ty all.now) }
@@ -161,16 +186,6 @@ fn replaced(alloc: Global, all: &[GenericArg], self_ty: Ty) -> Result<Vec<Generi
     let mut items = Vec::new(alloc);
     items.push(GenericArg::from(self_ty))?;
     items.extend_from_slice(&all[start..])?;
-    Ok(items)
-}
-
-// Returns the first `count` arguments.
-fn first_args(alloc: Global, all: &[GenericArg], count: u32) -> Result<Vec<GenericArg>, Refusal>
-    requires { count ≤ length all.now }
-    ensures items { IfOk result (λ items. items.items ≡ take count all.now) }
-    ensures err { IfErr result (λ e. e ≡ Memory) }
-{
-    let items = Vec::from_slice(alloc, &all[..count as usize])?;
     Ok(items)
 }
 
@@ -262,8 +277,14 @@ impl InternedAlias for AliasTy {
     }
 
     fn with_replaced_self_ty(self, cx: &mut Interner, self_ty: Ty) -> Result<AliasTy, Refusal> {
-        let items = replaced(cx.allocator(), self.args.as_slice(cx), self_ty)?;
-        let args = cx.put_args(items)?;
+        let all = self.args.as_slice(cx);
+        if all.len() > MOST_IN_PLACE {
+            let items = replaced(cx.allocator(), all, self_ty)?;
+            let args = cx.put_args(items)?;
+            return Ok(AliasTy::new_from_args(self.kind, args));
+        }
+        let (places, count) = replaced_in_place(all, self_ty);
+        let args = cx.mk_args(&places[..count])?;
         Ok(AliasTy::new_from_args(self.kind, args))
     }
 
@@ -291,9 +312,15 @@ impl InternedAlias for AliasTy {
     ) -> Result<(TraitRef, GenericArgsSlice), Refusal> {
         match own_args(cx, self) {
             Some((def_id, own)) => {
-                let all = self.args.as_slice(cx);
-                let items = first_args(cx.allocator(), all, own.start())?;
-                let args = cx.put_args(items)?;
+                let firsts = &self.args.as_slice(cx)[..own.start() as usize];
+                let count = firsts.len();
+                if count > MOST_IN_PLACE {
+                    let items = Vec::from_slice(cx.allocator(), firsts)?;
+                    let args = cx.put_args(items)?;
+                    return Ok((TraitRef { def_id, args }, own));
+                }
+                let places = in_place(firsts);
+                let args = cx.mk_args(&places[..count])?;
                 Ok((TraitRef { def_id, args }, own))
             }
             None => unreachable!(),
