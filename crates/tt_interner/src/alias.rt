@@ -143,7 +143,7 @@ pub trait InternedAlias: Sized {
 }
 
 // Returns the first of the arguments, if there is one and it is a type.
-fn first_type(items: &[GenericArg]) -> Option<Ty>
+pub(crate) fn first_type(items: &[GenericArg]) -> Option<Ty>
     ensures { result ≡ first_type items.now }
 {
     match items.first() {
@@ -162,6 +162,21 @@ fn replaced(alloc: Global, all: &[GenericArg], self_ty: Ty) -> Result<Vec<Generi
     items.push(GenericArg::from(self_ty))?;
     items.extend_from_slice(&all[start..])?;
     Ok(items)
+}
+
+// Returns the list of the arguments with the type in place of the first.
+pub(crate) fn replaced_args(
+    cx: &mut Interner,
+    args: GenericArgs,
+    self_ty: Ty,
+) -> Result<GenericArgs, Refusal>
+    requires args { args.number < size cx.old.rows ArgLists }
+    requires self_ty { self_ty.number < size cx.old.rows Types }
+    ensures replaces { ReplacesSelfTy result (λ made. made.number) cx.old cx.new args self_ty }
+    ensures extends { Extends cx.old cx.new }
+{
+    let items = replaced(cx.allocator(), args.as_slice(cx), self_ty)?;
+    cx.put_args(items)
 }
 
 // Returns the first `count` arguments.
@@ -262,8 +277,7 @@ impl InternedAlias for AliasTy {
     }
 
     fn with_replaced_self_ty(self, cx: &mut Interner, self_ty: Ty) -> Result<AliasTy, Refusal> {
-        let items = replaced(cx.allocator(), self.args.as_slice(cx), self_ty)?;
-        let args = cx.put_args(items)?;
+        let args = replaced_args(cx, self.args, self_ty)?;
         Ok(AliasTy::new_from_args(self.kind, args))
     }
 
