@@ -14,6 +14,8 @@ pub mod Definitions
 pub mod Collect
 pub mod Views
 pub mod Alias
+pub mod SelfTy
+pub mod Upcast
 pub mod Existentials
 pub mod Info
 pub mod Reads

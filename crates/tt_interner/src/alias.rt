@@ -146,7 +146,7 @@ pub trait InternedAlias: Sized {
 }
 
 // Returns the first of the arguments, if there is one and it is a type.
-fn first_type(items: &[GenericArg]) -> Option<Ty>
+pub(crate) fn first_type(items: &[GenericArg]) -> Option<Ty>
     ensures { result ≡ first_type items.now }
 {
     match items.first() {
@@ -187,6 +187,26 @@ fn replaced(alloc: Global, all: &[GenericArg], self_ty: Ty) -> Result<Vec<Generi
     items.push(GenericArg::from(self_ty))?;
     items.extend_from_slice(&all[start..])?;
     Ok(items)
+}
+
+// Returns the list of the arguments with the type in place of the first.
+pub(crate) fn replaced_args(
+    cx: &mut Interner,
+    args: GenericArgs,
+    self_ty: Ty,
+) -> Result<GenericArgs, Refusal>
+    requires args { args.number < size cx.old.rows ArgLists }
+    requires self_ty { self_ty.number < size cx.old.rows Types }
+    ensures replaces { ReplacesSelfTy result (λ made. made.number) cx.old cx.new args self_ty }
+    ensures extends { Extends cx.old cx.new }
+{
+    let all = args.as_slice(cx);
+    if all.len() > MOST_IN_PLACE {
+        let items = replaced(cx.allocator(), all, self_ty)?;
+        return cx.put_args(items);
+    }
+    let (places, count) = replaced_in_place(all, self_ty);
+    cx.mk_args(&places[..count])
 }
 
 // Returns the trait that the alias's associated type is declared in, if the alias is a projection and the type is
@@ -277,14 +297,7 @@ impl InternedAlias for AliasTy {
     }
 
     fn with_replaced_self_ty(self, cx: &mut Interner, self_ty: Ty) -> Result<AliasTy, Refusal> {
-        let all = self.args.as_slice(cx);
-        if all.len() > MOST_IN_PLACE {
-            let items = replaced(cx.allocator(), all, self_ty)?;
-            let args = cx.put_args(items)?;
-            return Ok(AliasTy::new_from_args(self.kind, args));
-        }
-        let (places, count) = replaced_in_place(all, self_ty);
-        let args = cx.mk_args(&places[..count])?;
+        let args = replaced_args(cx, self.args, self_ty)?;
         Ok(AliasTy::new_from_args(self.kind, args))
     }
 

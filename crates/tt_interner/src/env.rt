@@ -32,7 +32,8 @@ use crate::interner::Interner;
 use thiserror::Error;
 use tt_index::DebruijnIndex;
 use tt_kinds::{
-    Clause, ClauseKind, Const, ConstKind, ParamEnv, PlaceholderConst, Predicate, PredicateKind, Ty,
+    Clause, ClauseKind, Clauses, Const, ConstKind, ParamEnv, PlaceholderConst, Predicate,
+    PredicateKind, Ty,
 };
 
 /// Why an environment doesn't give a constant exactly one type.
@@ -79,6 +80,10 @@ pub trait ConstBounds: Sized {
     // The environment.
     ghost as_env: { Self → ParamEnv };
 
+    /// Returns the environment's clauses.
+    fn caller_bounds(self) -> Clauses
+        ensures { result ≡ (as_env self).caller_bounds };
+
     /// Returns whether in each clause `ConstArgHasType` no variable escapes the constant or the type once the clause's
     /// binder is dropped. The environment has to be of the interner; [`Interner::owns_clauses`] tests its list.
     fn const_bounds_closed(self, cx: &Interner) -> bool
@@ -88,6 +93,10 @@ pub trait ConstBounds: Sized {
 
 impl ConstBounds for ParamEnv {
     ghost as_env = { λ env. env };
+
+    fn caller_bounds(self) -> Clauses {
+        self.caller_bounds
+    }
 
     #[tactic(auto, unfolding(crate::specs::Env::AreBoundsClosed))]
     fn const_bounds_closed(self, cx: &Interner) -> bool {

@@ -14,9 +14,11 @@ pub mod handle;
 mod interner;
 mod laws;
 pub mod nodes;
+mod self_ty;
 mod signature;
 mod tables;
 pub mod ty_info;
+mod upcast;
 
 pub use alias::InternedAlias;
 pub use collect::{collect_and_apply, try_collect_and_apply};
@@ -31,5 +33,7 @@ pub use laws::{
     alias_args_are_joined, equal_handles_for_equal_trees, growth_keeps_declarations,
     growth_keeps_definitions, growth_keeps_rows, growth_keeps_trees,
 };
+pub use self_ty::SelfTy;
 pub use signature::SignatureTys;
 pub use ty_info::WithCachedTypeInfo;
+pub use upcast::{PredicateHandle, ToClauseKind, Upcast};
