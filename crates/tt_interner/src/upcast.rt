@@ -120,8 +120,9 @@ pub trait Upcast<U: PredicateHandle>: Sized {
     /// Returns the predicate that the value states. Its handles and names have to be of this interner;
     /// [`Interner::owns_predicate_kind`] tests it.
     ///
-    /// Without a binder, the value is put under a binder of no variables. No variable may escape it then, since the new
-    /// binder would capture it. Where one does, put the value under its binder first.
+    /// Without a binder, the value is put under a binder of no variables. No variable may escape the value then, since
+    /// the new binder would capture it; the query `has_escaping_bound_vars` tests it. A value that a variable escapes
+    /// has to come with its binder.
     ///
     /// Refused as [`Interner::mk_predicate`] is.
     fn upcast(self, cx: &mut Interner) -> Result<U, Refusal>
