@@ -35,10 +35,10 @@ impl From<Refusal> for Fault {
     }
 }
 
-// Returns the variable of this place in its binder's list or in a query.
-fn bound_var(place: u32) -> Result<BoundVar, Refusal> {
-    if BoundVar::fits(place) {
-        Ok(BoundVar::from_u32(place))
+// Returns the number as the number of a bound variable.
+fn bound_var(number: u32) -> Result<BoundVar, Refusal> {
+    if BoundVar::fits(number) {
+        Ok(BoundVar::from_u32(number))
     } else {
         Err(Refusal::GreatestIndex)
     }
@@ -54,8 +54,8 @@ struct Canonicalizer {
 }
 
 impl Canonicalizer {
-    // Returns the variable's place in the query, a new one if the variable is new.
-    fn place_of(&mut self, variable: Variable) -> Result<BoundVar, Refusal> {
+    // Returns the number of the variable in the query, a new one if the variable is new.
+    fn number_of(&mut self, variable: Variable) -> Result<BoundVar, Refusal> {
         let place = match self.met.iter().position(|met| *met == variable) {
             Some(place) => place,
             None => {
@@ -82,7 +82,7 @@ impl Replacer for Canonicalizer {
     fn replace_ty(&mut self, cx: &mut Interner, ty: Ty) -> Result<Step<Ty>, Fault> {
         match *ty.kind(cx) {
             TyKind::Infer(variable) => {
-                let var = self.place_of(Variable::Ty(variable))?;
+                let var = self.number_of(Variable::Ty(variable))?;
                 let kind = BoundTyKind::Anon;
                 let bound = TyKind::Bound(BoundVarIndexKind::Canonical, BoundTy { var, kind });
                 Ok(Step::Replace(cx.mk_ty(bound)?))
@@ -98,7 +98,7 @@ impl Replacer for Canonicalizer {
     fn replace_region(&mut self, _cx: &mut Interner, region: Region) -> Result<Region, Fault> {
         match region.kind() {
             RegionKind::ReVar(variable) => {
-                let var = self.place_of(Variable::Region(variable))?;
+                let var = self.number_of(Variable::Region(variable))?;
                 let kind = BoundRegionKind::Anon;
                 let bound = BoundRegion { var, kind };
                 Ok(Region::new(RegionKind::ReBound(BoundVarIndexKind::Canonical, bound))?)
@@ -114,7 +114,7 @@ impl Replacer for Canonicalizer {
     fn replace_const(&mut self, cx: &mut Interner, constant: Const) -> Result<Step<Const>, Fault> {
         match *constant.kind(cx) {
             ConstKind::Infer(variable) => {
-                let var = self.place_of(Variable::Const(variable))?;
+                let var = self.number_of(Variable::Const(variable))?;
                 let bound = ConstKind::Bound(BoundVarIndexKind::Canonical, BoundConst::new(var));
                 Ok(Step::Replace(cx.mk_const(bound)?))
             }
