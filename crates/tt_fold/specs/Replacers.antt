@@ -54,7 +54,7 @@ FailsIn H (Some Types) unbuilt s t e s' = H.types.type_fails unbuilt s t e s'
 FailsIn H (Some Consts) unbuilt s t e s' = H.consts.type_fails unbuilt s t e s'
 FailsIn H _ unbuilt s t e s' = ⊥
 
--- the hooks of the walk of a folder that replaces types, regions and constants, enters other terms and keeps rebuilt terms
+-- the hooks of a folder that replaces types, regions and constants, enters other terms and keeps rebuilt terms
 abbrev pub walk_hooks : {M E : Type 0} → ReplacerHooks M E → Hooks M E
 walk_hooks H = record {
   on_region = H.regions.on_region;

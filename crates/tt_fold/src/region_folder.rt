@@ -191,8 +191,8 @@ impl<F: FnMut(Region, DebruijnIndex) -> Region> TypeFolder for RegionFolder<F> {
 /// is no region to replace, the value itself is returned, the closure is not called, and nothing is built.
 ///
 /// The closure's last state is not given back, so the contract speaks of some last state, and doesn't exclude further
-/// calls. [`fold_regions_with`] takes the closure by reference: call it to exclude them, to use the closure again, or to
-/// read what the closure recorded.
+/// calls. [`fold_regions_with`] takes the closure by reference: call it to exclude them, to use the closure again, or
+/// to read what the closure recorded.
 ///
 /// Refused with:
 ///

@@ -33,9 +33,9 @@ use tt_kinds::{BoundVarKinds, Const, Node, Region, Ty};
 /// of the folder's `hooks`: with the default, which promises nothing, nothing is known of the values that the fold puts
 /// in. State `hooks` where a proof has to know them.
 ///
-/// The folder enters each predicate and each list of clauses, and keeps each rebuilt term. Results are put in unshifted:
-/// a folder that has to shift them counts the binders. [`replace_terms`] folds a value with such a folder. A folder that
-/// has to know a predicate or a rebuilt term implements [`TypeFolder`](crate::TypeFolder) instead.
+/// The folder enters each predicate and each list of clauses, and keeps each rebuilt term. Results are put in
+/// unshifted: a folder that has to shift them counts the binders. [`replace_terms`] folds a value with such a folder. A
+/// folder that has to know a predicate or a rebuilt term implements [`TypeFolder`](crate::TypeFolder) instead.
 ///
 /// Each method has to be written, since a default body could promise nothing exact. Where there is nothing to do, a
 /// method returns `Ok(Step::Descend)` at a type or a constant, the region itself at a region, and `Ok(())` at a binder.

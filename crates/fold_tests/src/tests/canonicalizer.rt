@@ -237,8 +237,8 @@ fn nested(cx: &mut Interner, region: Region, element: Ty, length: Const) -> Resu
     ref_ty(cx, bound_region(0)?, inner)
 }
 
-// Variables of types, regions and constants are replaced under a binder, unshifted, and are numbered together. The variable
-// of the binder stays.
+// Variables of types, regions and constants are replaced under a binder, unshifted, and are numbered together. The
+// binder's own variable stays.
 fn each_sort_of_variable_is_replaced_holds(cx: &mut Interner) -> Result<bool, Refusal> {
     let infer = InferConst::Var(ConstVid::from_u32(7));
     let length = constant(cx, ConstKind::Infer(infer))?;
