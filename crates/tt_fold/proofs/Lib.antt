@@ -24,6 +24,7 @@ pub mod ShiftLaws
 pub mod BoundLaws
 mod ShiftSteps
 pub mod TypeLaws
+pub mod ReplacerLaws
 pub mod CounterLaws
 pub mod PlaceLaws
 pub mod TaskLaws

@@ -22,4 +22,5 @@ pub mod RegionFolder
 pub mod RegionFolderGrowth
 pub mod Regions
 pub mod Types
+pub mod Replacers
 pub mod TypesOnce

@@ -2,6 +2,7 @@
 use Rattle.std.specs.Prelude.{◌≡◌, List, Result, MatchResult, true, false, ⊤}
 use Rattle.tt_index.specs.declared.refusal.Refusal.{Refusal}
 use Rattle.tt_kinds.specs.Tree.{Depth, Tree}
+use Rattle.tt_kinds.specs.Shape.{Shape}
 use Rattle.tt_kinds.specs.Kinds.{ty_shape}
 use Rattle.tt_kinds.specs.Handle.{Ty}
 use Rattle.tt_interner.specs.Rows.{Row}
@@ -50,13 +51,18 @@ only_types H = record {
   leave_fails = λ unbuilt s vs e s'. ⊥;
 }
 
--- The answer r of the hook at the type x. Before the call the interner is `terms` and the folder's state is s;
+-- The answer r of the hook at the term x. Before the call the interner is `terms` and the folder's state is s;
 -- afterwards they are terms' and s'. `gives` says which errors a refusal may give.
-abbrev pub AnswersType : {M E S : Type 0} → (List Row → S → M) → TypeHooks (Standing M) E → (Refusal → E → Type 0)
-    → Terms → S → Ty → Result (Step Ty) E → Terms → S → Type 0
-AnswersType means H gives terms s x r terms' s' = MatchResult r
-    (λ step. OwnsStep ty_shape terms'.rows step
-    × H.on_type (stands means terms s) (tree_in terms.rows (ty_shape x)) (answer_of ty_shape terms'.rows step)
-    (stands means terms' s'))
-    (λ e. H.type_fails (IsErrorOfUnbuilt gives terms') (stands means terms s) (tree_in terms.rows (ty_shape x)) e
-    (stands means terms' s'))
+module _ {M E S : Type 0} (means : List Row → S → M) (H : TypeHooks (Standing M) E) (gives : Refusal → E → Type 0) where
+  -- at a term of any sort
+  abbrev pub AnswersStep : {T : Type 0} → (T → Shape) → Terms → S → T → Result (Step T) E → Terms → S → Type 0
+  AnswersStep shape terms s x r terms' s' = MatchResult r
+      (λ step. OwnsStep shape terms'.rows step
+      × H.on_type (stands means terms s) (tree_in terms.rows (shape x)) (answer_of shape terms'.rows step)
+      (stands means terms' s'))
+      (λ e. H.type_fails (IsErrorOfUnbuilt gives terms') (stands means terms s) (tree_in terms.rows (shape x)) e
+      (stands means terms' s'))
+
+  -- at a type
+  abbrev pub AnswersType : Terms → S → Ty → Result (Step Ty) E → Terms → S → Type 0
+  AnswersType terms s x r terms' s' = AnswersStep ty_shape terms s x r terms' s'

@@ -48,7 +48,8 @@ pub trait TypeFoldable: TypeVisitable + Drop + Sized {
         self.fold_core::<Plain, F>(cx, folder)
     }
 
-    /// Like [`TypeFoldable::fold_with`], with a folder that has errors of its own.
+    /// Like [`TypeFoldable::fold_with`], with a folder that has errors of its own: its first error ends the fold, and a
+    /// refusal to build the result is converted to an error of the folder.
     final fn try_fold_with<F: FallibleTypeFolder>(
         self,
         cx: &mut Interner,
@@ -81,7 +82,8 @@ pub trait TypeSuperFoldable: TypeFoldable {
             cx.old folder.old self result cx.new folder.new };
 
     /// Returns the value with its contents folded. The hooks at the value itself are not called: neither the hooks of a
-    /// stored term, nor the hooks before and after a binder's value.
+    /// stored term, nor the hooks before and after a binder's value. The fold ends at the first refusal, as
+    /// [`TypeFoldable::fold_with`] does.
     final fn super_fold_with<F: TypeFolder>(
         self,
         cx: &mut Interner,
@@ -96,7 +98,8 @@ pub trait TypeSuperFoldable: TypeFoldable {
         self.super_fold_core::<Plain, F>(cx, folder)
     }
 
-    /// Like [`TypeSuperFoldable::super_fold_with`], with a folder that has errors of its own.
+    /// Like [`TypeSuperFoldable::super_fold_with`], with a folder that has errors of its own: its first error ends the
+    /// fold, and a refusal to build the result is converted to an error of the folder.
     final fn try_super_fold_with<F: FallibleTypeFolder>(
         self,
         cx: &mut Interner,

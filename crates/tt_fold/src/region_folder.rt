@@ -190,8 +190,9 @@ impl<F: FnMut(Region, DebruijnIndex) -> Region> TypeFolder for RegionFolder<F> {
 /// at several places, the closure is called at each of them. Its results have to be regions of this interner. If there
 /// is no region to replace, the value itself is returned, the closure is not called, and nothing is built.
 ///
-/// The closure is dropped, so the contract doesn't exclude further calls of it. To exclude them, to use the closure
-/// again, or to read what it recorded, lend it to [`fold_regions_with`].
+/// The closure's last state is not given back, so the contract speaks of some last state, and doesn't exclude further
+/// calls. [`fold_regions_with`] takes the closure by reference: call it to exclude them, to use the closure again, or
+/// to read what the closure recorded.
 ///
 /// Refused with:
 ///

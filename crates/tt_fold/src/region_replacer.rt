@@ -17,12 +17,12 @@ use tt_index::Refusal;
 use tt_interner::Interner;
 use tt_kinds::{BoundVarKinds, Node, Region};
 
-/// A folder that replaces regions alone: it enters each term and each binder, so one method is enough. The default
-/// `hooks` promise nothing about the method's results: state `hooks` if a proof has to know the regions that a fold
-/// puts in place of others.
+/// A folder that replaces regions alone: it enters each term and each binder, so one method is enough. A fold is
+/// promised to be the walk of the folder's `hooks`: with the default, which promises nothing, nothing is known of the
+/// regions that the fold puts in. State `hooks` where a proof has to know them.
 ///
 /// [`replace_regions`] folds a value with such a folder. A folder that has to know the binders around a region
-/// implements [`TypeFolder`](crate::TypeFolder) instead.
+/// implements [`Replacer`](crate::Replacer) instead.
 pub trait RegionReplacer {
     /// The error of the folder: [`Refusal`] if it has no errors of its own.
     type Error: From<Refusal> + Drop;

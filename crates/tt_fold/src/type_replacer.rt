@@ -19,11 +19,11 @@ use tt_interner::Interner;
 use tt_kinds::{BoundVarKinds, Node, Region, Ty};
 
 /// A folder that replaces types alone: it keeps regions, and enters each other term and each binder, so one method is
-/// enough. The default `hooks` promise nothing about the method's results: state `hooks` if a proof has to know the
-/// types that a fold puts in place of others.
+/// enough. A fold is promised to be the walk of the folder's `hooks`: with the default, which promises nothing, nothing
+/// is known of the types that the fold puts in. State `hooks` where a proof has to know them.
 ///
-/// [`replace_types`] folds a value with such a folder. A folder that has to know the binders around a type, or the
-/// rebuilt type, implements [`TypeFolder`](crate::TypeFolder) instead.
+/// [`replace_types`] folds a value with such a folder. A folder that has to know the binders around a type implements
+/// [`Replacer`](crate::Replacer) instead, and one that has to know the rebuilt type [`TypeFolder`](crate::TypeFolder).
 pub trait TypeReplacer {
     /// The error of the folder: [`Refusal`] if it has no errors of its own.
     type Error: From<Refusal> + Drop;
