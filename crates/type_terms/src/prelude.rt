@@ -1,30 +1,113 @@
 //! The commonest types, traits and functions, for `use type_terms::prelude::*;`: to build, declare, read, instantiate,
-//! shift, visit, fold and print terms. Others, such as `RegionName`, `FindConstTy` and `RegionReplacer`, are in
-//! [`type_terms`](crate) itself.
+//! shift, visit, fold and print terms. Other types and functions are in [`type_terms`](crate) itself.
 
-pub use tt_binder::{DataTypes, Instantiate, IterInstantiate, TypeSignature, instantiate_binder};
-pub use tt_fold::{
-    Step, TypeFoldable, TypeFolder, TypeReplacer, TypeSuperFoldable, fold_regions, replace_types,
-    replace_types_once, shift_vars,
-};
-pub use tt_index::{
-    BoundVar, DebruijnIndex, ExternAbi, FloatTy, Idx, IntTy, Mutability, Refusal, RegionVid,
-    Safety, TyVid, UintTy, UniverseIndex,
-};
-pub use tt_interner::{
-    AliasOfId, AsClause, AsPredicate, Flags, InternedAlias, InternedKind, InternedList,
-    InternedText, Interner, SignatureTys,
-};
-pub use tt_kinds::{
-    AdtId, AliasTy, AliasTyKind, Binder, BoundRegion, BoundRegionKind, BoundTy, BoundTyKind,
-    BoundVarIndexKind, BoundVarKinds, BoundVariableKind, Clause, ClauseKind, Clauses, Const,
-    ConstKind, DefId, EarlyBinder, ErrorGuaranteed, FieldDef, FnHeader, FnSig, FnSigKind, FnSigTys,
-    FunctionId, GenericArg, GenericArgKind, GenericArgs, InferTy, OutlivesPredicate, ParamEnv,
-    ParamTy, PlaceholderType, Predicate, PredicateKind, Region, RegionKind, Symbol, Term, TermKind,
-    TraitId, TraitPredicate, TraitRef, Ty, TyKind, Tys, VariantDef,
-};
+pub use tt_binder::DataTypes;
+pub use tt_binder::Instantiate;
+pub use tt_binder::IterInstantiate;
+pub use tt_binder::SliceLike;
+pub use tt_binder::TypeSignature;
+pub use tt_binder::instantiate_binder;
+pub use tt_fold::FallibleTypeFolder;
+pub use tt_fold::RegionReplacer;
+pub use tt_fold::Replacer;
+pub use tt_fold::Step;
+pub use tt_fold::TypeFoldable;
+pub use tt_fold::TypeFolder;
+pub use tt_fold::TypeReplacer;
+pub use tt_fold::TypeSuperFoldable;
+pub use tt_fold::fold_regions;
+pub use tt_fold::replace_regions;
+pub use tt_fold::replace_terms;
+pub use tt_fold::replace_types;
+pub use tt_fold::replace_types_once;
+pub use tt_fold::shift_vars;
+pub use tt_index::BoundVar;
+pub use tt_index::DebruijnIndex;
+pub use tt_index::ExternAbi;
+pub use tt_index::FloatTy;
+pub use tt_index::Idx;
+pub use tt_index::IntTy;
+pub use tt_index::Mutability;
+pub use tt_index::Refusal;
+pub use tt_index::RegionVid;
+pub use tt_index::Safety;
+pub use tt_index::TyVid;
+pub use tt_index::UintTy;
+pub use tt_index::UniverseIndex;
+pub use tt_interner::AliasOfId;
+pub use tt_interner::AsClause;
+pub use tt_interner::AsPredicate;
+pub use tt_interner::ConstBounds;
+pub use tt_interner::FindConstTy;
+pub use tt_interner::Flags;
+pub use tt_interner::ForKind;
+pub use tt_interner::InternedAlias;
+pub use tt_interner::InternedKind;
+pub use tt_interner::InternedList;
+pub use tt_interner::InternedText;
+pub use tt_interner::Interner;
+pub use tt_interner::RegionName;
+pub use tt_interner::SelfTy;
+pub use tt_interner::SignatureTys;
+pub use tt_interner::ToClauseKind;
+pub use tt_interner::Upcast;
+pub use tt_kinds::AdtId;
+pub use tt_kinds::AliasTy;
+pub use tt_kinds::AliasTyKind;
+pub use tt_kinds::Binder;
+pub use tt_kinds::BoundRegion;
+pub use tt_kinds::BoundRegionKind;
+pub use tt_kinds::BoundTy;
+pub use tt_kinds::BoundTyKind;
+pub use tt_kinds::BoundVarIndexKind;
+pub use tt_kinds::BoundVarKinds;
+pub use tt_kinds::BoundVariableKind;
+pub use tt_kinds::Clause;
+pub use tt_kinds::ClauseKind;
+pub use tt_kinds::Clauses;
+pub use tt_kinds::Const;
+pub use tt_kinds::ConstKind;
+pub use tt_kinds::DefId;
+pub use tt_kinds::EarlyBinder;
+pub use tt_kinds::ErrorGuaranteed;
+pub use tt_kinds::FieldDef;
+pub use tt_kinds::FnHeader;
+pub use tt_kinds::FnSig;
+pub use tt_kinds::FnSigKind;
+pub use tt_kinds::FnSigTys;
+pub use tt_kinds::FunctionId;
+pub use tt_kinds::GenericArg;
+pub use tt_kinds::GenericArgKind;
+pub use tt_kinds::GenericArgs;
+pub use tt_kinds::InferTy;
+pub use tt_kinds::OutlivesPredicate;
+pub use tt_kinds::ParamEnv;
+pub use tt_kinds::ParamTy;
+pub use tt_kinds::PlaceholderType;
+pub use tt_kinds::Predicate;
+pub use tt_kinds::PredicateKind;
+pub use tt_kinds::Region;
+pub use tt_kinds::RegionKind;
+pub use tt_kinds::Symbol;
+pub use tt_kinds::Term;
+pub use tt_kinds::TermKind;
+pub use tt_kinds::TraitId;
+pub use tt_kinds::TraitPredicate;
+pub use tt_kinds::TraitRef;
+pub use tt_kinds::Ty;
+pub use tt_kinds::TyKind;
+pub use tt_kinds::Tys;
+pub use tt_kinds::VariantDef;
 pub use tt_print::IrPrint;
-pub use tt_visit::{
-    BinderExt, EarlyBinderExt, InternedView, Next, Owned, TypeInspector, TypeSuperVisitable,
-    TypeVisitable, TypeVisitableExt, TypeVisitor, are_owned, inspect_types,
-};
+pub use tt_visit::BinderExt;
+pub use tt_visit::EarlyBinderExt;
+pub use tt_visit::InternedView;
+pub use tt_visit::Next;
+pub use tt_visit::Owned;
+pub use tt_visit::TypeInspector;
+pub use tt_visit::TypeSuperVisitable;
+pub use tt_visit::TypeVisitable;
+pub use tt_visit::TypeVisitableExt;
+pub use tt_visit::TypeVisitor;
+pub use tt_visit::are_owned;
+pub use tt_visit::inspect_types;
