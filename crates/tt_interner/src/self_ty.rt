@@ -117,7 +117,8 @@ impl SelfTy for HostEffectPredicate {
     } };
 
     fn args(&self) -> GenericArgs {
-        self.trait_ref.args
+        let HostEffectPredicate { trait_ref, .. } = *self;
+        trait_ref.args
     }
 
     fn with_args(self, args: GenericArgs) -> HostEffectPredicate {

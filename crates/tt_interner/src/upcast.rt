@@ -30,7 +30,8 @@ impl ToClauseKind for ClauseKind {
     ghost clause_kind = { λ kind. kind };
 
     fn to_clause_kind(self) -> ClauseKind {
-        self
+        let kind = self;
+        kind
     }
 }
 
@@ -97,7 +98,7 @@ impl PredicateHandle for Predicate {
     ghost number_of = { λ predicate. predicate.number };
 
     fn from_predicate(predicate: Predicate) -> Predicate {
-        predicate
+        Predicate::from_number(predicate.number())
     }
 }
 
