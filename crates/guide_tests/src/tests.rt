@@ -3,6 +3,7 @@
 mod bindings;
 mod canonicalizer;
 mod context;
+mod conversions;
 mod guide;
 mod normalizer;
 mod prelude;
