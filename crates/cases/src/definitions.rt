@@ -1,7 +1,7 @@
 //! Lines that define data types.
 
 use crate::containers::type_at;
-use crate::words::{Words, position};
+use case_lines::words::{Words, position};
 use test_terms::NOT_OWNED;
 use type_terms::{
     AdtId, Answer, DeclarationSort, EarlyBinder, FieldDef, Interner, Refusal, VariantDef,

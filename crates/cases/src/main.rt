@@ -5,22 +5,16 @@
 #![tactic(auto)]
 
 mod answers;
-mod arguments;
 mod attempt;
 mod case;
 mod containers;
-mod declarations;
 mod definitions;
 mod derived;
-mod predicates;
 mod reader;
-mod regions;
 mod routines;
 mod scripts;
 mod steps;
-mod terms;
 mod tolerance;
-mod words;
 
 use attempt::answer_case;
 use case::Case;

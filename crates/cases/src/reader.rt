@@ -1,12 +1,12 @@
 //! The reading of steps.
 
-use crate::arguments::{arguments, positions};
-use crate::declarations::declaration;
-use crate::predicates::predicate;
 use crate::routines::Routine;
 use crate::steps::{Change, Container, Derivation, Step};
-use crate::terms::{constant, pattern, ty};
-use crate::words::{Unread, Words};
+use case_lines::arguments::{arguments, positions};
+use case_lines::declarations::declaration;
+use case_lines::predicates::predicate;
+use case_lines::terms::{constant, pattern, ty};
+use case_lines::words::{Unread, Words};
 use std::alloc::Global;
 use type_terms::{Call, Refusal, parse_line};
 

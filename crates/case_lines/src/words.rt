@@ -1,7 +1,8 @@
 //! The words of a line, and what a single word says.
 
 use std::alloc::{AllocError, AllocFailed};
-use type_terms::{Index, TermCall};
+use tt_calls::TermCall;
+use tt_index::Index;
 
 /// Why a line gave no step.
 #[derive(Clone, Copy, Debug, PartialEq, Eq)]

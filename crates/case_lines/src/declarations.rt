@@ -5,7 +5,7 @@ use crate::regions::variables;
 use crate::terms::fn_sig_kind;
 use crate::words::{Unread, Words};
 use std::alloc::Global;
-use type_terms::{Call, DeclarationKindCall, DeclareCall};
+use tt_calls::{Call, DeclarationKindCall, DeclareCall};
 
 /// Returns the declaration of the words, the last of which is its name.
 pub fn declaration(alloc: Global, words: &mut Words) -> Result<Call, Unread> {

@@ -4,7 +4,7 @@ use crate::regions::region;
 use crate::words::{Unread, Words, number, position};
 use smallvec::SmallVec;
 use std::alloc::Global;
-use type_terms::{ArgCall, Positions};
+use tt_calls::{ArgCall, Positions};
 
 /// Returns the arguments of all further words: `%N` is a type, `#N` a constant, and each other word a region.
 pub fn arguments(alloc: Global, words: &Words) -> Result<Vec<ArgCall>, Unread> {

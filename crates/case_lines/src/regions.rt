@@ -2,7 +2,7 @@
 
 use crate::words::{Unread, index, number, position};
 use std::alloc::Global;
-use type_terms::{
+use tt_calls::{
     ArgCall, BoundTyKindCall, Call, RegionCall, RegionNameCall, VariableCall, parse_line,
 };
 

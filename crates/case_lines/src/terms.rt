@@ -5,10 +5,11 @@ use crate::predicates::existentials;
 use crate::regions::{region, type_name, variables};
 use crate::words::{Unread, Words};
 use std::alloc::Global;
-use type_terms::{
-    AliasCall, BoundConst, BoundVarIndexKind, Call, ConstCall, ErrorGuaranteed, ExternAbi, FloatTy,
-    FnHeader, FnSigKind, InferConst, ItemCall, Mutability, PatCall, PlaceholderConst, Safety,
-    ScalarInt, TyCall, ValTreeCall,
+use tt_calls::{AliasCall, Call, ConstCall, ItemCall, PatCall, TyCall, ValTreeCall};
+use tt_index::{ExternAbi, FloatTy, Mutability, Safety};
+use tt_kinds::{
+    BoundConst, BoundVarIndexKind, ErrorGuaranteed, FnHeader, FnSigKind, InferConst,
+    PlaceholderConst, ScalarInt,
 };
 
 /// Returns the type of this first word and the further words.

@@ -4,10 +4,10 @@ use crate::arguments::arguments;
 use crate::regions::{region, variables};
 use crate::words::{Unread, Words};
 use std::alloc::Global;
-use type_terms::{
-    AliasRelationDirection, BoundConstness, Call, ClauseCall, ExistentialCall, ExistentialKindCall,
-    PredicateCall, PredicateKindCall,
+use tt_calls::{
+    Call, ClauseCall, ExistentialCall, ExistentialKindCall, PredicateCall, PredicateKindCall,
 };
+use tt_kinds::{AliasRelationDirection, BoundConstness};
 
 /// Returns the predicate of the words, the first of which are the variables of its binder.
 pub fn predicate(alloc: Global, words: &mut Words) -> Result<Call, Unread> {
