@@ -112,10 +112,10 @@ impl TypeVisitable for ValueConst {
     }
 }
 
-impl TypeVisitable for ValTree {
-    ghost use Rattle.tt_kinds.specs.Bare.{valtree_shape};
+impl TypeVisitable for ValTreeKind {
+    ghost use Rattle.tt_kinds.specs.Bare.{valtree_kind_shape};
 
-    ghost shape = { valtree_shape };
+    ghost shape = { valtree_kind_shape };
 
     #[tactic(auto, unfolding(tt_kinds::specs::Shape::fill))]
     fn visit_with<V: TypeVisitor>(
@@ -123,9 +123,24 @@ impl TypeVisitable for ValTree {
         cx: &Interner,
         visitor: &mut V,
     ) -> ControlFlow<V::Break, ()> {
-        match &self.kind() {
+        match self {
             ValTreeKind::Leaf(_) => ControlFlow::Continue(()),
             ValTreeKind::Branch(values) => values.visit_with(cx, visitor),
         }
+    }
+}
+
+impl TypeVisitable for ValTree {
+    ghost use Rattle.tt_kinds.specs.Bare.{valtree_shape};
+
+    ghost shape = { valtree_shape };
+
+    fn visit_with<V: TypeVisitor>(
+        &self,
+        cx: &Interner,
+        visitor: &mut V,
+    ) -> ControlFlow<V::Break, ()> {
+        let kind = self.kind();
+        kind.visit_with(cx, visitor)
     }
 }

@@ -1,4 +1,4 @@
-//! The visits of values without terms: numbers, tags, indices and placeholders by themselves. They call no hook.
+//! The visits of values without terms: numbers, tags, indices and ids. They call no hook.
 
 ghost use Rattle.tt_kinds.specs.Shape.{Shape, fill};
 ghost use Rattle.tt_interner.specs.Rows.{meaning};
@@ -14,11 +14,15 @@ use tt_index::{
 };
 use tt_interner::Interner;
 use tt_kinds::{
-    AliasRelationDirection, BoundVarIndexKind, PlaceholderConst, PlaceholderRegion, PlaceholderType,
+    AliasRelationDirection, AliasTyKind, AnonConstKind, BoundConstness, BoundVarIndexKind, DefId,
+    FloatVarValue, FnHeader, FnSigKind, Id, IntVarValue, ScalarInt,
 };
 
-// Visits a value without terms, whatever its data are.
-fn visit_data<V: TypeVisitor>(_cx: &Interner, _visitor: &mut V) -> ControlFlow<V::Break, ()>
+/// Visits a value without terms, whatever its data are.
+pub(crate) fn visit_data<V: TypeVisitor>(
+    _cx: &Interner,
+    _visitor: &mut V,
+) -> ControlFlow<V::Break, ()>
     requires owned { V.owned _cx.now.rows _visitor.old }
     ensures owned { V.owned _cx.now.rows _visitor.new }
     ensures broke { OwnsBreak V.break_owned _cx.now.rows result }
@@ -268,24 +272,10 @@ impl TypeVisitable for BoundVarIndexKind {
     }
 }
 
-impl TypeVisitable for PlaceholderRegion {
-    ghost use Rattle.tt_visit.specs.Data.{data_shape, placeholder_region_data};
+impl TypeVisitable for BoundConstness {
+    ghost use Rattle.tt_visit.specs.Data.{data_shape, number_data, constness_number};
 
-    ghost shape = { λ p. data_shape (placeholder_region_data p) };
-
-    fn visit_with<V: TypeVisitor>(
-        &self,
-        cx: &Interner,
-        visitor: &mut V,
-    ) -> ControlFlow<V::Break, ()> {
-        visit_data(cx, visitor)
-    }
-}
-
-impl TypeVisitable for PlaceholderType {
-    ghost use Rattle.tt_visit.specs.Data.{placeholder_type_shape};
-
-    ghost shape = { placeholder_type_shape };
+    ghost shape = { λ c. data_shape (number_data 1 (constness_number c)) };
 
     fn visit_with<V: TypeVisitor>(
         &self,
@@ -296,10 +286,122 @@ impl TypeVisitable for PlaceholderType {
     }
 }
 
-impl TypeVisitable for PlaceholderConst {
-    ghost use Rattle.tt_visit.specs.Data.{placeholder_const_shape};
+impl TypeVisitable for AnonConstKind {
+    ghost use Rattle.tt_visit.specs.Data.{data_shape, number_data, anon_const_number};
 
-    ghost shape = { placeholder_const_shape };
+    ghost shape = { λ kind. data_shape (number_data 1 (anon_const_number kind)) };
+
+    fn visit_with<V: TypeVisitor>(
+        &self,
+        cx: &Interner,
+        visitor: &mut V,
+    ) -> ControlFlow<V::Break, ()> {
+        visit_data(cx, visitor)
+    }
+}
+
+impl TypeVisitable for IntVarValue {
+    ghost use Rattle.tt_visit.specs.Data.{data_shape, number_data, int_value_number};
+
+    ghost shape = { λ value. data_shape (number_data 1 (int_value_number value)) };
+
+    fn visit_with<V: TypeVisitor>(
+        &self,
+        cx: &Interner,
+        visitor: &mut V,
+    ) -> ControlFlow<V::Break, ()> {
+        visit_data(cx, visitor)
+    }
+}
+
+impl TypeVisitable for FloatVarValue {
+    ghost use Rattle.tt_visit.specs.Data.{data_shape, number_data, float_value_number};
+
+    ghost shape = { λ value. data_shape (number_data 1 (float_value_number value)) };
+
+    fn visit_with<V: TypeVisitor>(
+        &self,
+        cx: &Interner,
+        visitor: &mut V,
+    ) -> ControlFlow<V::Break, ()> {
+        visit_data(cx, visitor)
+    }
+}
+
+impl TypeVisitable for FnSigKind {
+    ghost use Rattle.tt_visit.specs.Data.{data_shape, fn_sig_kind_data};
+
+    ghost shape = { λ kind. data_shape (fn_sig_kind_data kind) };
+
+    fn visit_with<V: TypeVisitor>(
+        &self,
+        cx: &Interner,
+        visitor: &mut V,
+    ) -> ControlFlow<V::Break, ()> {
+        visit_data(cx, visitor)
+    }
+}
+
+impl TypeVisitable for FnHeader {
+    ghost use Rattle.tt_visit.specs.Data.{data_shape, fn_header_data};
+
+    ghost shape = { λ header. data_shape (fn_header_data header) };
+
+    fn visit_with<V: TypeVisitor>(
+        &self,
+        cx: &Interner,
+        visitor: &mut V,
+    ) -> ControlFlow<V::Break, ()> {
+        visit_data(cx, visitor)
+    }
+}
+
+impl TypeVisitable for AliasTyKind {
+    ghost use Rattle.tt_visit.specs.Data.{data_shape, alias_kind_data};
+
+    ghost shape = { λ kind. data_shape (alias_kind_data kind) };
+
+    fn visit_with<V: TypeVisitor>(
+        &self,
+        cx: &Interner,
+        visitor: &mut V,
+    ) -> ControlFlow<V::Break, ()> {
+        visit_data(cx, visitor)
+    }
+}
+
+impl TypeVisitable for ScalarInt {
+    ghost use Rattle.tt_visit.specs.Data.{data_shape, scalar_data};
+
+    ghost shape = { λ scalar. data_shape (scalar_data scalar) };
+
+    fn visit_with<V: TypeVisitor>(
+        &self,
+        cx: &Interner,
+        visitor: &mut V,
+    ) -> ControlFlow<V::Break, ()> {
+        visit_data(cx, visitor)
+    }
+}
+
+impl TypeVisitable for DefId {
+    ghost use Rattle.tt_visit.specs.Data.{data_shape, number_data};
+
+    ghost shape = { λ id. data_shape (number_data 4 id.number) };
+
+    fn visit_with<V: TypeVisitor>(
+        &self,
+        cx: &Interner,
+        visitor: &mut V,
+    ) -> ControlFlow<V::Break, ()> {
+        visit_data(cx, visitor)
+    }
+}
+
+impl<S> TypeVisitable for Id<S> {
+    ghost use Rattle.tt_visit.specs.Data.{data_shape, number_data};
+
+    ghost shape = { λ id. data_shape (number_data 4 id.number) };
 
     fn visit_with<V: TypeVisitor>(
         &self,
