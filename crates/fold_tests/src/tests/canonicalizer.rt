@@ -79,8 +79,14 @@ impl Canonicalizer {
     // Refuses a variable that is bound outside of the value.
     fn check(&self, index: BoundVarIndexKind) -> Result<(), Fault> {
         match index {
-            BoundVarIndexKind::Bound(debruijn) if debruijn >= self.depth => Err(Fault::Escapes),
-            _ => Ok(()),
+            BoundVarIndexKind::Bound(debruijn) => {
+                if debruijn < self.depth {
+                    Ok(())
+                } else {
+                    Err(Fault::Escapes)
+                }
+            }
+            BoundVarIndexKind::Canonical => Ok(()),
         }
     }
 }
