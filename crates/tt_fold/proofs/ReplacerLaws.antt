@@ -53,9 +53,9 @@ node-table rows x has h =
     ∙ ap tree_table (stored_tree rows (node_table x) (node_number x))
     ∙ handle-table rows (node_table x) (node_number x) (in_range rows (node_table x) (node_number x) h)
 
-module _ {M E : Type 0} (H : ReplacerHooks M E) {m : M} {t : Tree Depth} where
+module _ {M E : Type 0} (H : ReplacerHooks M E) (m : M) (t : Tree Depth) where
   -- the answer of a hook at a term of the table, as an answer in the walk
-  pub answers-in : {T : Type 0} (shape : T → Shape) {unbuilt : Tree Depth → E → Type 0} {rows : List Row} {m1 : M} {k : Option Table} (r : Result (Step T) E)
+  pub answers-in : {T : Type 0} (shape : T → Shape) (unbuilt : Tree Depth → E → Type 0) (rows : List Row) (m1 : M) (k : Option Table) (r : Result (Step T) E)
       → term_table t ≡ k
       → MatchResult r
       (λ p. OwnsStep shape rows p × AnswersIn H k m t (answer_of shape rows p) m1)
@@ -63,7 +63,7 @@ module _ {M E : Type 0} (H : ReplacerHooks M E) {m : M} {t : Tree Depth} where
       → MatchResult r
       (λ p. OwnsStep shape rows p × AnswersIn H (term_table t) m t (answer_of shape rows p) m1)
       (λ e. FailsIn H (term_table t) unbuilt m t e m1)
-  answers-in shape {unbuilt} {rows} {m1} r is h = subst
+  answers-in shape unbuilt rows m1 k r is h = subst
       (λ j. MatchResult r
       (λ p. OwnsStep shape rows p × AnswersIn H j m t (answer_of shape rows p) m1)
       (λ e. FailsIn H j unbuilt m t e m1))

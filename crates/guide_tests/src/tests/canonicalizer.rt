@@ -1,6 +1,7 @@
 //! A user's canonicalizer: inference variables are replaced by variables of a canonical query.
 
 use super::{holds_anew, holds_within};
+use std::alloc::Global;
 use test_terms::{
     NOT_OWNED, bound_region, constant, one_region, pointer, ref_ty, region_variable, ty, tys,
     u32_ty,
@@ -54,6 +55,14 @@ struct Canonicalizer {
 }
 
 impl Canonicalizer {
+    // Returns a canonicalizer that has met no variable.
+    fn new(alloc: Global) -> Canonicalizer {
+        Canonicalizer {
+            met: Vec::new(alloc),
+            depth: DebruijnIndex::INNERMOST,
+        }
+    }
+
     // Returns the number of the variable in the query, a new one if the variable is new.
     fn number_of(&mut self, variable: Variable) -> Result<BoundVar, Refusal> {
         let place = match self.met.iter().position(|met| *met == variable) {
@@ -70,8 +79,14 @@ impl Canonicalizer {
     // Refuses a variable that is bound outside of the value.
     fn check(&self, index: BoundVarIndexKind) -> Result<(), Fault> {
         match index {
-            BoundVarIndexKind::Bound(debruijn) if debruijn >= self.depth => Err(Fault::Escapes),
-            _ => Ok(()),
+            BoundVarIndexKind::Bound(debruijn) => {
+                if debruijn < self.depth {
+                    Ok(())
+                } else {
+                    Err(Fault::Escapes)
+                }
+            }
+            BoundVarIndexKind::Canonical => Ok(()),
         }
     }
 }
@@ -178,14 +193,6 @@ fn canonical_const(cx: &mut Interner, number: u32) -> Result<Const, Refusal> {
     )
 }
 
-// Returns a canonicalizer that has met no variable.
-fn canonicalizer(cx: &Interner) -> Canonicalizer {
-    Canonicalizer {
-        met: Vec::new(cx.allocator()),
-        depth: DebruijnIndex::INNERMOST,
-    }
-}
-
 // Returns the value with its inference variables replaced by the canonicalizer's.
 fn canonicalized<T: Owned + TypeFoldable>(
     cx: &mut Interner,
@@ -211,7 +218,7 @@ fn variables_are_numbered_as_they_are_met_holds(cx: &mut Interner) -> Result<boo
     let query = tys(cx, &[before, three, seven])?;
     let wanted = tys(cx, &[after, second, first])?;
     let full = Fault::Refused(Refusal::TableFull);
-    let mut folder = canonicalizer(cx);
+    let mut folder = Canonicalizer::new(cx.allocator());
     Ok(
         canonicalized(cx, query, &mut folder) == Ok(wanted)
             && folder.met.len() == 2
@@ -253,7 +260,7 @@ fn each_sort_of_variable_is_replaced_holds(cx: &mut Interner) -> Result<bool, Re
     let vars = one_region(cx)?;
     let query = (Binder::bind_with_vars(before, vars), (length, element));
     let wanted = (Binder::bind_with_vars(after, vars), (third, second));
-    let mut folder = canonicalizer(cx);
+    let mut folder = Canonicalizer::new(cx.allocator());
     Ok(
         canonicalized(cx, query, &mut folder) == Ok(wanted)
             && folder.met.len() == 3
@@ -276,7 +283,7 @@ fn escaping_variables_are_refused_holds(cx: &mut Interner) -> Result<bool, Refus
     let vars = one_region(cx)?;
     let bound = Binder::bind_with_vars(inside, vars);
     let refused = Fault::Escapes;
-    let mut folder = canonicalizer(cx);
+    let mut folder = Canonicalizer::new(cx.allocator());
     Ok(
         canonicalized(cx, bound, &mut folder) == Ok(bound)
             && canonicalized(cx, inside, &mut folder) == Err(refused)
