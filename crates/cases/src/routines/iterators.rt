@@ -2,13 +2,14 @@
 
 ghost use Rattle.std.specs.List.{All};
 ghost use Rattle.std.specs.Prelude.{IsTrue, ◌<◌};
+ghost use Rattle.tt_interner.specs.Arguments.{AreArguments};
 ghost use Rattle.tt_interner.specs.Rows.{size};
 ghost use Rattle.tt_kinds.specs.declared.table.Table.TheVariants.{ArgLists, Types};
 
 use test_terms::{NOT_OWNED, args, param_ty, tuple, ty, u32_ty};
 use type_terms::{
-    EarlyBinder, GenericArg, GenericArgs, Interner, IterInstantiate, Refusal, Ty, TyKind, UintTy,
-    Unnormalized, collect_and_apply, try_collect_and_apply,
+    EarlyBinder, GenericArg, GenericArgs, Interner, IterInstantiate, IterInstantiatedCopied,
+    Refusal, Ty, TyKind, UintTy, Unnormalized, are_owned, collect_and_apply, try_collect_and_apply,
 };
 
 // Returns whether all of the types are the interner's.
@@ -77,6 +78,44 @@ pub fn items_are_instantiated(cx: &mut Interner) -> Result<bool, Refusal> {
     }
     let left = left_after_refusal(cx, &[other, byte], list)?;
     Ok(ends == (Some(instance), Some(byte)) && left == Some(1))
+}
+
+// Returns the instance of the value behind the first pointer, and of the value behind the last.
+fn first_and_last_pointed(
+    cx: &mut Interner,
+    types: &[Ty],
+    args: &[GenericArg],
+) -> Result<(Option<Ty>, Option<Ty>), Refusal>
+    requires args { AreArguments cx.old.rows args.now }
+    requires types { All (λ ty. ty.number < size cx.old.rows Types) types.now }
+{
+    let mut iter: IterInstantiatedCopied<_> = EarlyBinder::bind(
+        types.iter(),
+    ).iter_instantiated_copied(args);
+    let first = instance(iter.next(cx))?;
+    let last = instance(iter.next_back(cx))?;
+    Ok((first, last))
+}
+
+/// The values behind pointers are instantiated from both ends, by arguments that are in no list. An only value comes from
+/// one end.
+pub fn pointed_items_are_instantiated(cx: &mut Interner) -> Result<bool, Refusal> {
+    let param = param_ty(cx, 0)?;
+    let slice = ty(cx, TyKind::Slice(param))?;
+    let one = tuple(cx, &[param])?;
+    let number = u32_ty(cx)?;
+    let list = [GenericArg::from(number)];
+    if !are_owned(cx, &list) || !are_types(cx, &[slice, one]) {
+        return Err(NOT_OWNED);
+    }
+    let both = first_and_last_pointed(cx, &[slice, one], &list)?;
+    if !are_owned(cx, &list) || !are_types(cx, &[slice]) {
+        return Err(NOT_OWNED);
+    }
+    let only = first_and_last_pointed(cx, &[slice], &list)?;
+    let numbers = ty(cx, TyKind::Slice(number))?;
+    let single = tuple(cx, &[number])?;
+    Ok(both == (Some(numbers), Some(single)) && only == (Some(numbers), None))
 }
 
 /// A sum of nine numbers, of none, and the first error among three.
