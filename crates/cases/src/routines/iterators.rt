@@ -2,14 +2,14 @@
 
 ghost use Rattle.std.specs.List.{All};
 ghost use Rattle.std.specs.Prelude.{IsTrue, ◌<◌};
-ghost use Rattle.tt_interner.specs.Arguments.{AreArguments};
 ghost use Rattle.tt_interner.specs.Rows.{size};
 ghost use Rattle.tt_kinds.specs.declared.table.Table.TheVariants.{ArgLists, Types};
 
 use test_terms::{NOT_OWNED, args, param_ty, tuple, ty, u32_ty};
 use type_terms::{
-    EarlyBinder, GenericArg, GenericArgs, Interner, IterInstantiate, IterInstantiatedCopied,
-    Refusal, Ty, TyKind, UintTy, Unnormalized, are_owned, collect_and_apply, try_collect_and_apply,
+    EarlyBinder, GenericArg, GenericArgs, Interner, IterInstantiate, IterInstantiated,
+    IterInstantiatedCopied, Refusal, Ty, TyKind, UintTy, Unnormalized, are_owned,
+    collect_and_apply, try_collect_and_apply,
 };
 
 // Returns whether all of the types are the interner's.
@@ -37,7 +37,9 @@ fn first_and_last(
     requires args { args.number < size cx.old.rows ArgLists }
     requires types { All (λ ty. ty.number < size cx.old.rows Types) types.now }
 {
-    let mut iter = EarlyBinder::bind(types.iter().copied()).iter_instantiated(args);
+    let mut iter: IterInstantiated<_, GenericArgs> = EarlyBinder::bind(
+        types.iter().copied(),
+    ).iter_instantiated(args);
     let first = instance(iter.next(cx))?;
     let last = instance(iter.next_back(cx))?;
     Ok((first, last))
@@ -52,7 +54,9 @@ fn left_after_refusal(
     requires args { args.number < size cx.old.rows ArgLists }
     requires types { All (λ ty. ty.number < size cx.old.rows Types) types.now }
 {
-    let mut iter = EarlyBinder::bind(types.iter().copied()).iter_instantiated(args);
+    let mut iter: IterInstantiated<_, GenericArgs> = EarlyBinder::bind(
+        types.iter().copied(),
+    ).iter_instantiated(args);
     match iter.next(cx) {
         Some(Err(Refusal::ArgOutOfRange { index: 1 })) => Ok(Some(iter.len())),
         Some(Err(refusal)) => Err(refusal),
@@ -80,42 +84,39 @@ pub fn items_are_instantiated(cx: &mut Interner) -> Result<bool, Refusal> {
     Ok(ends == (Some(instance), Some(byte)) && left == Some(1))
 }
 
-// Returns the instance of the value behind the first pointer, and of the value behind the last.
+// Returns the instances of the values behind the first pointer and the last one, and how many pointers are left.
 fn first_and_last_pointed(
     cx: &mut Interner,
     types: &[Ty],
     args: &[GenericArg],
-) -> Result<(Option<Ty>, Option<Ty>), Refusal>
-    requires args { AreArguments cx.old.rows args.now }
-    requires types { All (λ ty. ty.number < size cx.old.rows Types) types.now }
-{
+) -> Result<(Option<Ty>, Option<Ty>, usize), Refusal> {
+    if !are_owned(cx, args) || !are_types(cx, types) {
+        return Err(NOT_OWNED);
+    }
     let mut iter: IterInstantiatedCopied<_> = EarlyBinder::bind(
         types.iter(),
     ).iter_instantiated_copied(args);
     let first = instance(iter.next(cx))?;
+    // The next step has to know that these are the terms of the interner as the first one left it.
+    if !are_owned(cx, args) || !are_types(cx, types) {
+        return Err(NOT_OWNED);
+    }
     let last = instance(iter.next_back(cx))?;
-    Ok((first, last))
+    Ok((first, last, iter.len()))
 }
 
-/// The values behind pointers are instantiated from both ends, by arguments that are in no list. An only value comes from
-/// one end.
+/// The values behind pointers are instantiated from both ends. If there is one value, the other end has none left.
 pub fn pointed_items_are_instantiated(cx: &mut Interner) -> Result<bool, Refusal> {
     let param = param_ty(cx, 0)?;
     let slice = ty(cx, TyKind::Slice(param))?;
     let one = tuple(cx, &[param])?;
     let number = u32_ty(cx)?;
     let list = [GenericArg::from(number)];
-    if !are_owned(cx, &list) || !are_types(cx, &[slice, one]) {
-        return Err(NOT_OWNED);
-    }
-    let both = first_and_last_pointed(cx, &[slice, one], &list)?;
-    if !are_owned(cx, &list) || !are_types(cx, &[slice]) {
-        return Err(NOT_OWNED);
-    }
+    let both = first_and_last_pointed(cx, &[slice, param, one], &list)?;
     let only = first_and_last_pointed(cx, &[slice], &list)?;
     let numbers = ty(cx, TyKind::Slice(number))?;
     let single = tuple(cx, &[number])?;
-    Ok(both == (Some(numbers), Some(single)) && only == (Some(numbers), None))
+    Ok(both == (Some(numbers), Some(single), 1) && only == (Some(numbers), None, 0))
 }
 
 /// A sum of nine numbers, of none, and the first error among three.
