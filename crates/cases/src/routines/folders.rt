@@ -1,6 +1,7 @@
 //! Folders whose hooks build terms, one of them with an error of its own.
 
 ghost use Rattle.std.specs.Prelude.{◌≡◌, ⊤, refl};
+ghost use Rattle.cases.specs.Folders.{no_promise};
 
 use test_terms::{NOT_OWNED, bound_region, ref_ty, tuple, ty, u32_ty};
 use type_terms::{
@@ -21,18 +22,7 @@ impl TypeFolder for Slices {
 
     ghost owned = { λ _ _. ⊤ };
 
-    ghost hooks = { record {
-      on_region = λ s t r s'. ⊤;
-      region_fails = λ unbuilt s t e s'. ⊤;
-      on_term = λ s t a s'. ⊤;
-      term_fails = λ unbuilt s t e s'. ⊤;
-      after_term = λ s t u r s'. ⊤;
-      after_fails = λ unbuilt s t u e s'. ⊤;
-      enter = λ s vs s'. ⊤;
-      enter_fails = λ unbuilt s vs e s'. ⊤;
-      leave = λ s vs s'. ⊤;
-      leave_fails = λ unbuilt s vs e s'. ⊤;
-    } };
+    ghost hooks = { no_promise };
 
     fn fold_region(&mut self, _cx: &mut Interner, region: Region) -> Result<Region, Refusal> {
         Ok(region)
@@ -144,18 +134,7 @@ impl FallibleTypeFolder for SlicesUntil {
 
     ghost owned = { λ _ _. ⊤ };
 
-    ghost hooks = { record {
-      on_region = λ s t r s'. ⊤;
-      region_fails = λ unbuilt s t e s'. ⊤;
-      on_term = λ s t a s'. ⊤;
-      term_fails = λ unbuilt s t e s'. ⊤;
-      after_term = λ s t u r s'. ⊤;
-      after_fails = λ unbuilt s t u e s'. ⊤;
-      enter = λ s vs s'. ⊤;
-      enter_fails = λ unbuilt s vs e s'. ⊤;
-      leave = λ s vs s'. ⊤;
-      leave_fails = λ unbuilt s vs e s'. ⊤;
-    } };
+    ghost hooks = { no_promise };
 
     fn try_fold_region(&mut self, _cx: &mut Interner, region: Region) -> Result<Region, Stop> {
         Ok(region)
@@ -312,7 +291,7 @@ pub fn rebuilt_types_are_sliced(cx: &mut Interner) -> Result<bool, Refusal> {
     Ok(whole == (wanted, number) && inside == wanted && kept == single)
 }
 
-/// A folder replaces a type before its contents, and its own error ends the fold. The error is kept apart from a refusal.
+/// A folder replaces a type before its contents. Its own error, which is no refusal, ends the fold.
 pub fn folds_end_at_errors(cx: &mut Interner) -> Result<bool, Refusal> {
     let number = u32_ty(cx)?;
     let truth = ty(cx, TyKind::Bool)?;
