@@ -3,10 +3,14 @@
 //! Such a function answers whether what it checks holds, on the interner of the case. It is called again after a
 //! refusal for want of memory, and at the end of the case.
 
+mod built;
 mod copies;
+mod declared;
+mod folders;
 mod iterators;
 mod lists;
 mod names;
+mod replacers;
 mod unification;
 mod validation;
 
@@ -41,6 +45,24 @@ pub enum Routine {
     VariablesAreValidated,
     /// Two types with variables are made equal.
     TypesAreUnified,
+    /// Each call declares its sort by its name, and once more by another id.
+    SortsAreDeclared,
+    /// A parameter, a reference and a tuple are what the call for all types builds.
+    TypesAreBuilt,
+    /// A list of assumptions is instantiated and moved into binders as its items are.
+    AssumptionsAreFolded,
+    /// Triples and results are moved into binders and instantiated.
+    ValuesAreMoved,
+    /// A folder puts a type into a slice after its contents.
+    RebuiltTypesAreSliced,
+    /// A folder replaces a type before its contents, and its own error ends the fold.
+    FoldsEndAtErrors,
+    /// Types are replaced by slices, and regions by a parameter.
+    ReplacementsAreBuilt,
+    /// A closure answers variables of canonical queries, and of indices near the greatest.
+    RegionsAreAnswered,
+    /// The values behind pointers are instantiated from both ends.
+    PointedItemsAreInstantiated,
 }
 
 impl Routine {
@@ -60,6 +82,15 @@ impl Routine {
             "items_are_collected" => Some(Routine::ItemsAreCollected),
             "variables_are_validated" => Some(Routine::VariablesAreValidated),
             "types_are_unified" => Some(Routine::TypesAreUnified),
+            "sorts_are_declared" => Some(Routine::SortsAreDeclared),
+            "types_are_built" => Some(Routine::TypesAreBuilt),
+            "assumptions_are_folded" => Some(Routine::AssumptionsAreFolded),
+            "values_are_moved" => Some(Routine::ValuesAreMoved),
+            "rebuilt_types_are_sliced" => Some(Routine::RebuiltTypesAreSliced),
+            "folds_end_at_errors" => Some(Routine::FoldsEndAtErrors),
+            "replacements_are_built" => Some(Routine::ReplacementsAreBuilt),
+            "regions_are_answered" => Some(Routine::RegionsAreAnswered),
+            "pointed_items_are_instantiated" => Some(Routine::PointedItemsAreInstantiated),
             _ => None,
         }
     }
@@ -80,6 +111,15 @@ impl Routine {
             Routine::ItemsAreCollected => iterators::items_are_collected(cx),
             Routine::VariablesAreValidated => validation::variables_are_validated(cx),
             Routine::TypesAreUnified => unification::types_are_unified(cx),
+            Routine::SortsAreDeclared => declared::sorts_are_declared(cx),
+            Routine::TypesAreBuilt => built::types_are_built(cx),
+            Routine::AssumptionsAreFolded => built::assumptions_are_folded(cx),
+            Routine::ValuesAreMoved => built::values_are_moved(cx),
+            Routine::RebuiltTypesAreSliced => folders::rebuilt_types_are_sliced(cx),
+            Routine::FoldsEndAtErrors => folders::folds_end_at_errors(cx),
+            Routine::ReplacementsAreBuilt => replacers::replacements_are_built(cx),
+            Routine::RegionsAreAnswered => replacers::regions_are_answered(cx),
+            Routine::PointedItemsAreInstantiated => iterators::pointed_items_are_instantiated(cx),
         }
     }
 }

@@ -7,8 +7,9 @@ ghost use Rattle.tt_kinds.specs.declared.table.Table.TheVariants.{ArgLists, Type
 
 use test_terms::{NOT_OWNED, args, param_ty, tuple, ty, u32_ty};
 use type_terms::{
-    EarlyBinder, GenericArg, GenericArgs, Interner, IterInstantiate, Refusal, Ty, TyKind, UintTy,
-    Unnormalized, collect_and_apply, try_collect_and_apply,
+    EarlyBinder, GenericArg, GenericArgs, Interner, IterInstantiate, IterInstantiated,
+    IterInstantiatedCopied, Refusal, Ty, TyKind, UintTy, Unnormalized, are_owned,
+    collect_and_apply, try_collect_and_apply,
 };
 
 // Returns whether all of the types are the interner's.
@@ -36,7 +37,9 @@ fn first_and_last(
     requires args { args.number < size cx.old.rows ArgLists }
     requires types { All (λ ty. ty.number < size cx.old.rows Types) types.now }
 {
-    let mut iter = EarlyBinder::bind(types.iter().copied()).iter_instantiated(args);
+    let mut iter: IterInstantiated<_, GenericArgs> = EarlyBinder::bind(
+        types.iter().copied(),
+    ).iter_instantiated(args);
     let first = instance(iter.next(cx))?;
     let last = instance(iter.next_back(cx))?;
     Ok((first, last))
@@ -51,7 +54,9 @@ fn left_after_refusal(
     requires args { args.number < size cx.old.rows ArgLists }
     requires types { All (λ ty. ty.number < size cx.old.rows Types) types.now }
 {
-    let mut iter = EarlyBinder::bind(types.iter().copied()).iter_instantiated(args);
+    let mut iter: IterInstantiated<_, GenericArgs> = EarlyBinder::bind(
+        types.iter().copied(),
+    ).iter_instantiated(args);
     match iter.next(cx) {
         Some(Err(Refusal::ArgOutOfRange { index: 1 })) => Ok(Some(iter.len())),
         Some(Err(refusal)) => Err(refusal),
@@ -77,6 +82,41 @@ pub fn items_are_instantiated(cx: &mut Interner) -> Result<bool, Refusal> {
     }
     let left = left_after_refusal(cx, &[other, byte], list)?;
     Ok(ends == (Some(instance), Some(byte)) && left == Some(1))
+}
+
+// Returns the instances of the values behind the first pointer and the last one, and how many pointers are left.
+fn first_and_last_pointed(
+    cx: &mut Interner,
+    types: &[Ty],
+    args: &[GenericArg],
+) -> Result<(Option<Ty>, Option<Ty>, usize), Refusal> {
+    if !are_owned(cx, args) || !are_types(cx, types) {
+        return Err(NOT_OWNED);
+    }
+    let mut iter: IterInstantiatedCopied<_> = EarlyBinder::bind(
+        types.iter(),
+    ).iter_instantiated_copied(args);
+    let first = instance(iter.next(cx))?;
+    // The next step has to know that these are the terms of the interner as the first one left it.
+    if !are_owned(cx, args) || !are_types(cx, types) {
+        return Err(NOT_OWNED);
+    }
+    let last = instance(iter.next_back(cx))?;
+    Ok((first, last, iter.len()))
+}
+
+/// The values behind pointers are instantiated from both ends. If there is one value, the other end has none left.
+pub fn pointed_items_are_instantiated(cx: &mut Interner) -> Result<bool, Refusal> {
+    let param = param_ty(cx, 0)?;
+    let slice = ty(cx, TyKind::Slice(param))?;
+    let one = tuple(cx, &[param])?;
+    let number = u32_ty(cx)?;
+    let list = [GenericArg::from(number)];
+    let both = first_and_last_pointed(cx, &[slice, param, one], &list)?;
+    let only = first_and_last_pointed(cx, &[slice], &list)?;
+    let numbers = ty(cx, TyKind::Slice(number))?;
+    let single = tuple(cx, &[number])?;
+    Ok(both == (Some(numbers), Some(single), 1) && only == (Some(numbers), None, 0))
 }
 
 /// A sum of nine numbers, of none, and the first error among three.
