@@ -17,7 +17,9 @@ use tt_interner::Interner;
 use tt_kinds::{BoundVarKinds, Clauses, Const, ErrorGuaranteed, Predicate, Region, Ty};
 
 /// A visitor that looks at types alone. It ignores regions and tokens of errors, and enters each other term and each
-/// binder, so one method is enough.
+/// binder, so one method is enough. A visit is promised to be the walk of the inspector's `hooks`: with the default,
+/// which promises nothing, nothing is known of where the visit breaks or of the inspector's state. State `hooks` where a
+/// proof has to know them.
 ///
 /// Each inspector is a [`TypeVisitor`]; [`inspect_types`] visits a value with an inspector. A visitor that has to know
 /// the binders around a type implements [`TypeVisitor`] itself.
