@@ -1,11 +1,11 @@
 //! A solver's conversions: self types, and clauses from the values that they state.
 
 use super::holds_anew;
-use test_terms::{NOT_OWNED, args, bound_ty, clause, predicate, ty, u32_ty};
+use test_terms::{NOT_OWNED, args, bound_ty, clause, clauses, predicate, ty, u32_ty};
 use type_terms::{
-    AliasTerm, BoundVarKinds, Clause, ClauseKind, DefId, GenericArg, Interner, Owned, Predicate,
-    PredicateKind, ProjectionPredicate, Refusal, SelfTy, Term, ToClauseKind, TraitId,
-    TraitPredicate, TraitRef, Ty, TyKind, TypeVisitableExt, Upcast,
+    AliasTerm, BoundVarKinds, Clause, ClauseKind, ConstBounds, DefId, GenericArg, Interner, Owned,
+    ParamEnv, PredicateHandle, PredicateKind, ProjectionPredicate, Refusal, SelfTy, Term,
+    ToClauseKind, TraitId, TraitPredicate, TraitRef, Ty, TyKind, TypeVisitableExt, Upcast,
 };
 
 // Returns the clause that the value states. No variable may escape the value.
@@ -36,13 +36,14 @@ fn number_is_one(cx: &mut Interner) -> Result<TraitRef, Refusal> {
     })
 }
 
-// A trait reference and its predicate state one clause, which is the predicate that is built by hand. A value that a
-// variable escapes states none without its binder.
+// A trait reference and its predicate state one clause, which is the predicate that is built by hand, and which an
+// environment can hold. A value that a variable escapes states none without its binder.
 fn clauses_are_stated_holds(cx: &mut Interner) -> Result<bool, Refusal> {
     let trait_ref = number_is_one(cx)?;
     let by_hand = PredicateKind::Clause(ClauseKind::Trait(TraitPredicate { trait_ref }));
-    let wanted = predicate(cx, by_hand, BoundVarKinds::default())?;
-    let wanted = clause(cx, wanted)?;
+    let stored = predicate(cx, by_hand, BoundVarKinds::default())?;
+    let wanted = clause(cx, stored)?;
+    let caller_bounds = clauses(cx, &[wanted])?;
     let near = GenericArg::from(bound_ty(cx, 0)?);
     let escaping = TraitRef {
         def_id: trait_ref.def_id,
@@ -51,7 +52,9 @@ fn clauses_are_stated_holds(cx: &mut Interner) -> Result<bool, Refusal> {
     Ok(
         stated(cx, trait_ref) == Ok(wanted)
             && stated(cx, TraitPredicate { trait_ref }) == Ok(wanted)
-            && stated(cx, escaping) == Err(NOT_OWNED),
+            && stated(cx, escaping) == Err(NOT_OWNED)
+            && Clause::from_predicate(stored) == wanted
+            && ParamEnv { caller_bounds }.caller_bounds() == caller_bounds,
     )
 }
 
