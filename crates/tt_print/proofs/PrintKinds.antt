@@ -1,20 +1,21 @@
 -- The texts of kinds by themselves, and of predicates that are the contents of a clause.
-use Rattle.std.proofs.Common.{◌≡◌, ℕ, List, [], ◌++◌, refl, ap, sym, ◌∙◌}
+use Rattle.std.proofs.Common.{◌≡◌, ℕ, refl, ap, sym}
 use Rattle.std.proofs.lemmas.List.{append-nil}
 use Rattle.tt_kinds.specs.Label.{Name, Sort, type_sort, const_sort, Entry, record_label, bare_bound_record}
-use Rattle.tt_kinds.specs.Label.{projection_record}
+use Rattle.tt_kinds.specs.Label.{projection_record, const_label, bare_const_record, error_of_const}
 use Rattle.tt_kinds.specs.Tree as tree
 use Rattle.tt_kinds.specs.Tree.{Depth, at, canonical}
 use Rattle.tt_kinds.specs.Bound.{depth, ty_entry, const_entry}
 use Rattle.tt_kinds.specs.Shape as shape
 use Rattle.tt_kinds.specs.Shape.{Meaning, Shape, Shapes, fill, fill_all, name_of, rename_entry}
-use Rattle.tt_kinds.specs.Kinds.{args_shape, child_shapes, clause_form, kind_shape, record_shape, term_kind_shape}
+use Rattle.tt_kinds.specs.Kinds.{args_shape, child_shapes, clause_form, form_shape, kind_shape, record_shape}
+use Rattle.tt_kinds.specs.Kinds.{relabelled, term_kind_shape, value_form}
 use Rattle.tt_kinds.specs.Parts.{term_kind_child}
-use Rattle.tt_kinds.specs.Bare.{bare_const_shape, bare_ty_shape, index_of}
+use Rattle.tt_kinds.specs.Bare.{bare_const_shape, bare_shape, bare_ty_shape, index_of}
+use Rattle.tt_kinds.specs.Handle.{Ty}
 use Rattle.tt_kinds.specs.Values.{projection_shape}
 use Rattle.tt_kinds.specs.declared.const_kind.ConstKind.{ConstKind}
 use Rattle.tt_kinds.specs.declared.const_kind.ConstKind.TheVariants as const
-use Rattle.tt_kinds.specs.declared.const_kind.ValueConst.{ValueConst}
 use Rattle.tt_kinds.specs.declared.const_kind.ValTreeKind.{ValTreeKind}
 use Rattle.tt_kinds.specs.declared.const_kind.ValTreeKind.TheVariants as valtree
 use Rattle.tt_kinds.specs.declared.parts.Kind.TheVariants as kind
@@ -24,10 +25,6 @@ use Rattle.tt_kinds.specs.declared.term.TermKind.{TermKind}
 use Rattle.tt_kinds.specs.declared.term.TermKind.TheVariants as term
 use Rattle.tt_kinds.specs.declared.ty_kind.TyKind.{TyKind}
 use Rattle.tt_kinds.specs.declared.ty_kind.TyKind.TheVariants as ty
-use Rattle.tt_kinds.specs.Kinds.{Form, plain, value_form, form_shape, relabelled}
-use Rattle.tt_kinds.specs.Label.{const_label, bare_const_record, error_of_const}
-use Rattle.tt_kinds.specs.Bare.{bare_shape}
-use Rattle.tt_kinds.specs.Handle.{Ty}
 use Rattle.tt_print.specs.Text.{text, head_text, bound_head}
 use Rattle.tt_print.proofs.PrintLaws.{name-text}
 

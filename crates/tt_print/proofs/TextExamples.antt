@@ -1,5 +1,5 @@
 -- Terms and their texts, and terms that differ and have texts that differ.
-use Rattle.std.proofs.Common.{◌≡◌, ℕ, suc, zero, ◌+◌, Some, None, List, [], ◌∷◌, Bool, true, false, refl}
+use Rattle.std.proofs.Common.{◌≡◌, ℕ, suc, zero, Some, None, List, [], ◌∷◌, Bool, true, false, refl}
 use Rattle.std.specs.Prelude.{◌&&◌, codes}
 use Rattle.std.specs.Fmt.{digits}
 use Rattle.std.specs.Str.{bytes_eq}
