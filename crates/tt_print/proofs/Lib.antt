@@ -4,4 +4,5 @@ pub mod PrintLaws
 pub mod PrintVariables
 pub mod PrintParts
 pub mod PrintPieces
+pub mod PrintKinds
 mod TextExamples

@@ -1,12 +1,13 @@
 -- The texts of stored terms: each is its head, then its parts, then its end.
 use Rattle.std.proofs.Common.{◌≡◌, ℕ, List, [], ◌++◌, true, false, refl, ap, sym, ◌∙◌}
-use Rattle.std.specs.Prelude.{Option}
+use Rattle.std.specs.Prelude.{Option, Some, None}
 use Rattle.std.proofs.lemmas.List.{append-nil}
 use Rattle.tt_kinds.specs.Label.{Name, Sort, region_sort, type_sort, const_sort, VarKind, region_variable}
 use Rattle.tt_kinds.specs.Label.{type_variable, const_variable, RegionName, anonymous, printed, named, environment}
 use Rattle.tt_kinds.specs.Label.{TypeLabel, infer_type, raw_ptr_type}
 use Rattle.tt_kinds.specs.Label.{ConstLabel, infer_const, PatternLabel, range_pattern, RecordLabel, fn_sig_tys_record}
-use Rattle.tt_kinds.specs.Label.{pair_record, host_effect_record, subtype_record, unstable_feature_record, Label}
+use Rattle.tt_kinds.specs.Label.{pair_record, subtype_record, unstable_feature_record, bare_param_record}
+use Rattle.tt_kinds.specs.Label.{bare_bound_record, bare_type_record, bare_const_record, bare_pattern_record, Label}
 use Rattle.tt_kinds.specs.Label.{type_label, const_label, pattern_label, predicate_label, existential_label}
 use Rattle.tt_kinds.specs.Label.{record_label}
 use Rattle.tt_kinds.specs.Tree as tree
@@ -31,7 +32,6 @@ use Rattle.tt_kinds.specs.declared.const_kind.ConstKind.{ConstKind}
 use Rattle.tt_kinds.specs.declared.const_kind.ConstKind.TheVariants as const
 use Rattle.tt_kinds.specs.declared.const_kind.ValTreeKind.{ValTreeKind}
 use Rattle.tt_kinds.specs.declared.const_kind.ValTreeKind.TheVariants as valtree
-use Rattle.tt_kinds.specs.declared.predicate.BoundConstness.TheVariants as constness
 use Rattle.tt_index.specs.declared.qualifier.Mutability.TheVariants.{Not, Mut}
 use Rattle.tt_kinds.specs.declared.region_kind.RegionKind.{RegionKind}
 use Rattle.tt_kinds.specs.declared.region_kind.RegionKind.TheVariants.{ReEarlyParam, ReBound, ReLateParam, ReStatic}
@@ -43,10 +43,10 @@ use Rattle.tt_kinds.specs.declared.parts.ListSort.{ListSort}
 use Rattle.tt_kinds.specs.declared.parts.ListSort.TheVariants as sort
 use Rattle.tt_print.specs.declared.ir_print.layout.Style.{Style}
 use Rattle.tt_print.specs.declared.ir_print.layout.Style.TheVariants as style
-use Rattle.tt_print.specs.Text.{opening_text, Head, no_head, head_in, fn_head, variable_head, variable_title}
+use Rattle.tt_print.specs.Text.{Head, no_head, head_in, fn_head, variable_head, variable_title}
 use Rattle.tt_print.specs.Text.{region_title}
 use Rattle.tt_print.specs.Text.{ty_title, type_head, const_head, pattern_head, record_head, bound_head}
-use Rattle.tt_print.specs.Text.{region_name_head, type_style, record_style, style_in, closing, head_text}
+use Rattle.tt_print.specs.Text.{region_name_head, type_style, record_style, style_in, before_child, closing, head_text}
 use Rattle.tt_print.specs.Text.{variables_text, text_in, texts}
 use Rattle.tt_print.specs.declared.ir_print.spelling.Spelling.{Spelling}
 use Rattle.tt_print.specs.Spelling.{head_of, form_head, form_style, region_head, rename_head, IsNamedSubject}
@@ -74,12 +74,23 @@ module _ (f : ℕ → Name) where
   fn-renamed (style.Signature k) = refl
   fn-renamed _ = refl
 
+  bound-renamed : (s : Sort) (d : Depth) (var : ℕ) → rename_head f (bound_head s d var) ≡ bound_head s d var
+  bound-renamed region_sort (at d) var = refl
+  bound-renamed region_sort canonical var = refl
+  bound-renamed type_sort (at d) var = refl
+  bound-renamed type_sort canonical var = refl
+  bound-renamed const_sort (at d) var = refl
+  bound-renamed const_sort canonical var = refl
+
   record-renamed : (s : Style) (l : RecordLabel ℕ) → rename_head f (record_head s l) ≡ record_head s (rename_record f l)
   record-renamed s fn_sig_tys_record = fn-renamed s
-  record-renamed s (host_effect_record d constness.Const) = refl
-  record-renamed s (host_effect_record d constness.Maybe) = refl
   record-renamed s (subtype_record true) = refl
   record-renamed s (subtype_record false) = refl
+  record-renamed s (bare_bound_record o (Some d) e) = bound-renamed o (at d) e.var
+  record-renamed s (bare_bound_record o None e) = bound-renamed o canonical e.var
+  record-renamed s (bare_type_record l) = type-renamed l
+  record-renamed s (bare_const_record l) = const-renamed l
+  record-renamed s (bare_pattern_record l) = pattern-renamed l
   record-renamed s _ = refl
 
   head-renamed : (s : Style) (l : Label ℕ) → rename_head f (head_in s l) ≡ head_in s (rename_label f l)
@@ -111,14 +122,6 @@ module _ (f : ℕ → Name) where
   title-renamed (type_variable k) = ty_title-renamed k
   title-renamed const_variable = refl
 
-  bound-renamed : (s : Sort) (d : Depth) (var : ℕ) → rename_head f (bound_head s d var) ≡ bound_head s d var
-  bound-renamed region_sort (at d) var = refl
-  bound-renamed region_sort canonical var = refl
-  bound-renamed type_sort (at d) var = refl
-  bound-renamed type_sort canonical var = refl
-  bound-renamed const_sort (at d) var = refl
-  bound-renamed const_sort canonical var = refl
-
   called-renamed : (r : RegionName ℕ) → rename_head f (region_name_head r) ≡ region_name_head (rename_region f r)
   called-renamed anonymous = refl
   called-renamed (printed n) = refl
@@ -133,22 +136,23 @@ module _ (f : ℕ → Name) where
   style-renamed s (record_label l) = record-style-renamed s l
   style-renamed s _ = refl
 
--- nothing is around one child of this style
-record IsBareAround (s : Style) : Type 0 where
-  before : opening_text s true ≡ []
-  after : closing s 1 ≡ []
+module _ (item_name : ℕ → Name) where
+  -- nothing is around one child of this style
+  record IsBareAround (s : Style) : Type 0 where
+    before : before_child item_name s 0 true ≡ []
+    after : closing item_name s 1 ≡ []
 
--- a type under a binder: nothing is around its record, and nothing in front of the binder
-abbrev IsOuterType : Form TypeLabel → Type 0
-IsOuterType (param i name) = Unit {0}
-IsOuterType (bound d e) = Unit {0}
-IsOuterType (plain l p) = Unit {0}
-IsOuterType (under l vars m p) = IsBareAround (type_style l) × (type_head {N = ℕ} l ≡ no_head)
+  -- a type under a binder: nothing is around its record, and nothing in front of the binder
+  abbrev IsOuterType : Form TypeLabel → Type 0
+  IsOuterType (param i name) = Unit {0}
+  IsOuterType (bound d e) = Unit {0}
+  IsOuterType (plain l p) = Unit {0}
+  IsOuterType (under l vars m p) = IsBareAround (type_style l) × (type_head {N = ℕ} l ≡ no_head)
 
-outer-type : (k : TyKind) → IsOuterType (ty_form k)
-outer-type (ty.FnPtr b h) = (record { before = refl; after = refl }, refl)
-outer-type (ty.UnsafeBinder b) = (record { before = refl; after = refl }, refl)
-outer-type _ = tt
+  outer-type : (k : TyKind) → IsOuterType (ty_form k)
+  outer-type (ty.FnPtr b h) = (record { before = refl; after = refl }, refl)
+  outer-type (ty.UnsafeBinder b) = (record { before = refl; after = refl }, refl)
+  outer-type _ = tt
 
 -- no constant is under a binder
 abbrev IsOuterConst : Form ConstLabel → Type 0
@@ -170,9 +174,10 @@ module _ (item_name : ℕ → Name) (f : Meaning) where
   abbrev spelled : Sort → Form (Label ℕ) → List ℕ
   spelled s x =
       binder_text item_name f (form_binder x) ++ (head_text item_name (rename_head (name_of f) (form_head s x))
-      ++ (texts item_name (form_style x) true (fill_all f (parts_shapes (form_parts x))) ++ closing (form_style x) (count_trees (fill_all f (parts_shapes (form_parts x))))))
+      ++ (texts item_name (form_style x) 0 (fill_all f (parts_shapes (form_parts x))) ++ closing item_name (form_style x) (count_trees (fill_all f (parts_shapes (form_parts x))))))
 
-  name-text : (name : List ℕ) → name ≡ ([] ++ (name ++ [])) ++ ([] ++ [])
+  -- a name by itself, as a term without children
+  pub name-text : (name : List ℕ) → name ≡ ([] ++ (name ++ [])) ++ ([] ++ [])
   name-text name = sym (append-nil name) ∙ sym (append-nil (name ++ []))
 
   bound-text : (s : Sort) (d : Depth) (var : ℕ) → head_text item_name (bound_head s d var) ≡ head_text item_name (rename_head (name_of f) (bound_head s d var)) ++ ([] ++ [])
@@ -181,7 +186,7 @@ module _ (item_name : ℕ → Name) (f : Meaning) where
 
   plain-text : (s : Style) (l : Label ℕ) (ts : Forest Depth) → style_in s l ≡ style_in style.Joined l → head_in s l ≡ head_in style.Joined l
       → text_in item_name s (tree.term (rename_label (name_of f) l) ts)
-      ≡ head_text item_name (rename_head (name_of f) (head_in style.Joined l)) ++ (texts item_name (style_in style.Joined l) true ts ++ closing (style_in style.Joined l) (count_trees ts))
+      ≡ head_text item_name (rename_head (name_of f) (head_in style.Joined l)) ++ (texts item_name (style_in style.Joined l) 0 ts ++ closing item_name (style_in style.Joined l) (count_trees ts))
   plain-text s l ts same alike =
       rw (style-renamed (name_of f) s l, same, ← head-renamed (name_of f) s l, alike) refl
 
@@ -189,11 +194,11 @@ module _ (item_name : ℕ → Name) (f : Meaning) where
   alone-text : (t : List ℕ) → (([] ++ (t ++ [])) ++ []) ≡ t
   alone-text t = append-nil (t ++ []) ∙ append-nil t
 
-  under-text : (s : Style) (l : Label ℕ) (m : RecordLabel ℕ) (vs : List (VarKind Name)) (ts : Forest Depth) → style_in s l ≡ style_in style.Joined l → IsBareAround (style_in style.Joined l)
+  under-text : (s : Style) (l : Label ℕ) (m : RecordLabel ℕ) (vs : List (VarKind Name)) (ts : Forest Depth) → style_in s l ≡ style_in style.Joined l → IsBareAround item_name (style_in style.Joined l)
       → head_in s l ≡ no_head
       → text_in item_name s (tree.term (rename_label (name_of f) l) (also (tree.binder vs (tree.node (record_label (rename_record (name_of f) m)) ts)) none))
       ≡ variables_text item_name 0 vs ++ (head_text item_name (rename_head (name_of f) (record_head (style_in style.Joined l) m))
-      ++ (texts item_name (record_style (style_in style.Joined l) m) true ts ++ closing (record_style (style_in style.Joined l) m) (count_trees ts)))
+      ++ (texts item_name (record_style (style_in style.Joined l) m) 0 ts ++ closing item_name (record_style (style_in style.Joined l) m) (count_trees ts)))
   under-text s l m vs ts same bare empty =
       rw (
         style-renamed (name_of f) s l,
@@ -206,9 +211,9 @@ module _ (item_name : ℕ → Name) (f : Meaning) where
         ← record-renamed (name_of f) (style_in style.Joined l) m,
       )
       (alone-text (variables_text item_name 0 vs ++ (head_text item_name (rename_head (name_of f) (record_head (style_in style.Joined l) m))
-      ++ (texts item_name (record_style (style_in style.Joined l) m) true ts ++ closing (record_style (style_in style.Joined l) m) (count_trees ts)))))
+      ++ (texts item_name (record_style (style_in style.Joined l) m) 0 ts ++ closing item_name (record_style (style_in style.Joined l) m) (count_trees ts)))))
 
-  type-text : (s : Style) (x : Form TypeLabel) → IsOuterType x → text_in item_name s (fill f (form_shape type_sort (relabelled type_label x))) ≡ spelled type_sort (relabelled type_label x)
+  type-text : (s : Style) (x : Form TypeLabel) → IsOuterType item_name x → text_in item_name s (fill f (form_shape type_sort (relabelled type_label x))) ≡ spelled type_sort (relabelled type_label x)
   unfolding fill fill_all
   type-text s (param i name) h = name-text (name_of f name)
   type-text s (bound d e) h = bound-text type_sort d e.var
@@ -223,13 +228,13 @@ module _ (item_name : ℕ → Name) (f : Meaning) where
   const-text s (plain l p) h = plain-text s (const_label l) (fill_all f (parts_shapes p)) refl refl
   const-text s (under l vars m p) h = absurd h
 
-  bare : IsBareAround style.Joined
+  bare : IsBareAround item_name style.Joined
   bare = record { before = refl; after = refl }
 
   -- the text of a stored term, by its kind
   pub kind-text : (s : Style) (k : Kind) → text_in item_name s (fill f (kind_shape k)) ≡ spelled (kind_sort k) (kind_form k)
   unfolding fill fill_all
-  kind-text s (kind.Ty k) = type-text s (ty_form k) (outer-type k)
+  kind-text s (kind.Ty k) = type-text s (ty_form k) (outer-type item_name k)
   kind-text s (kind.Const k) = const-text s (const_form k) (outer-const k)
   kind-text s (kind.Pat k) = plain-text s (pattern_label (pattern_form k).label) (fill_all f (parts_shapes (pattern_form k).parts)) refl refl
   kind-text s (kind.Predicate b) = under-text s predicate_label (predicate_form b.value).label (vars_of (f VarLists b.bound_vars.number)) (fill_all f (parts_shapes (predicate_form b.value).parts)) refl bare refl
@@ -237,13 +242,13 @@ module _ (item_name : ℕ → Name) (f : Meaning) where
 
   -- what is written of a kind is its text
   pub kind-written : (s : Style) (k : Kind) (vars : Option BoundVarKinds) (h : Head ℕ) (x : Style) (p : Parts) (n : ℕ) (end : List ℕ) → vars ≡ form_binder (kind_form k) → h ≡ form_head (kind_sort k) (kind_form k) → x ≡ form_style (kind_form k)
-      → p ≡ form_parts (kind_form k) → n ≡ count_trees (fill_all f (parts_shapes p)) → end ≡ closing x n
-      → binder_text item_name f vars ++ (head_text item_name (rename_head (name_of f) h) ++ (texts item_name x true (fill_all f (parts_shapes p)) ++ end))
+      → p ≡ form_parts (kind_form k) → n ≡ count_trees (fill_all f (parts_shapes p)) → end ≡ closing item_name x n
+      → binder_text item_name f vars ++ (head_text item_name (rename_head (name_of f) h) ++ (texts item_name x 0 (fill_all f (parts_shapes p)) ++ end))
       ≡ text_in item_name s (fill f (kind_shape k))
   kind-written s k vars h x p n end of_vars of_head of_style of_parts of_count of_end = rw (of_end, of_count, of_parts, of_style, of_head, of_vars) (sym (kind-text s k))
 
   record-text : (l : RecordLabel ℕ) (ts : Forest Depth)
-      → head_text item_name (rename_head (name_of f) (record_head style.Joined l)) ++ (texts item_name (record_style style.Joined l) true ts ++ closing (record_style style.Joined l) (count_trees ts))
+      → head_text item_name (rename_head (name_of f) (record_head style.Joined l)) ++ (texts item_name (record_style style.Joined l) 0 ts ++ closing item_name (record_style style.Joined l) (count_trees ts))
       ≡ text_in item_name style.Joined (tree.node (record_label (rename_record (name_of f) l)) ts)
   record-text l ts = rw (record-style-renamed (name_of f) style.Joined l, ← record-renamed (name_of f) style.Joined l) refl
 
@@ -253,8 +258,8 @@ module _ (item_name : ℕ → Name) (f : Meaning) where
   unfolding fill
   record-spelled s x of_head of_style =
       let ts = fill_all f (parts_shapes x.parts) in
-      ap (λ (h : Head ℕ). head_text item_name (rename_head (name_of f) h) ++ (texts item_name s.style true ts ++ closing s.style (count_trees ts))) of_head
-      ∙ ap (λ (y : Style). head_text item_name (rename_head (name_of f) (record_head style.Joined x.label)) ++ (texts item_name y true ts ++ closing y (count_trees ts))) of_style
+      ap (λ (h : Head ℕ). head_text item_name (rename_head (name_of f) h) ++ (texts item_name s.style 0 ts ++ closing item_name s.style (count_trees ts))) of_head
+      ∙ ap (λ (y : Style). head_text item_name (rename_head (name_of f) (record_head style.Joined x.label)) ++ (texts item_name y 0 ts ++ closing item_name y (count_trees ts))) of_style
       ∙ record-text x.label ts
 
   -- the text of a region
@@ -271,13 +276,13 @@ module _ (item_name : ℕ → Name) (f : Meaning) where
 
   -- the text of a list, by the style of the term that holds it
   pub list-text : (s : Style) (o : ListSort) (ts : Forest Depth)
-      → texts item_name (style_in {N = Name} s (items_label o)) true ts ++ closing (style_in {N = Name} s (items_label o)) (count_trees ts) ≡ text_in item_name s (items_tree o ts)
+      → texts item_name (style_in {N = Name} s (items_label o)) 0 ts ++ closing item_name (style_in {N = Name} s (items_label o)) (count_trees ts) ≡ text_in item_name s (items_tree o ts)
   list-text s sort.Tys ts = refl
   list-text s _ ts = refl
 
   -- what is written of a list is its text
   pub list-written : (s : Style) (o : ListSort) (ts : Forest Depth) (t : Tree Depth) (x : Style) (n : ℕ) (end : List ℕ) → x ≡ style_in {N = Name} s (items_label o) → t ≡ items_tree o ts
-      → n ≡ count_trees ts → end ≡ closing x n → texts item_name x true ts ++ end ≡ text_in item_name s t
+      → n ≡ count_trees ts → end ≡ closing item_name x n → texts item_name x 0 ts ++ end ≡ text_in item_name s t
   list-written s o ts t x n end of_style of_tree of_count of_end = rw (of_end, of_count, of_style, of_tree) (list-text s o ts)
 
 -- the names in a head are in the table of symbols where those of the term are
@@ -302,16 +307,6 @@ module _ (size : Sizes) where
   fn-named (style.Signature k) = tt
   fn-named _ = tt
 
-  -- the name in a record's head is in range if the names in its label are
-  pub record-named : (s : Style) (l : RecordLabel ℕ) → IsNamedRecord size l → IsNamedSubject size (record_head s l).subject
-  record-named s (unstable_feature_record n) h = h
-  record-named s fn_sig_tys_record h = fn-named s
-  record-named s (host_effect_record d constness.Const) h = tt
-  record-named s (host_effect_record d constness.Maybe) h = tt
-  record-named s (subtype_record true) h = tt
-  record-named s (subtype_record false) h = tt
-  record-named s _ h = tt
-
   bound-named : (s : Sort) (d : Depth) (var : ℕ) → IsNamedSubject size (bound_head s d var).subject
   bound-named region_sort (at d) var = tt
   bound-named region_sort canonical var = tt
@@ -319,6 +314,20 @@ module _ (size : Sizes) where
   bound-named type_sort canonical var = tt
   bound-named const_sort (at d) var = tt
   bound-named const_sort canonical var = tt
+
+  -- the name in a record's head is in range if the names in its label are
+  pub record-named : (s : Style) (l : RecordLabel ℕ) → IsNamedRecord size l → IsNamedSubject size (record_head s l).subject
+  record-named s (unstable_feature_record n) h = h
+  record-named s fn_sig_tys_record h = fn-named s
+  record-named s (subtype_record true) h = tt
+  record-named s (subtype_record false) h = tt
+  record-named s (bare_param_record o i n) h = h
+  record-named s (bare_bound_record o (Some d) e) h = bound-named o (at d) e.var
+  record-named s (bare_bound_record o None e) h = bound-named o canonical e.var
+  record-named s (bare_type_record l) h = type-named l
+  record-named s (bare_const_record l) h = const-named l
+  record-named s (bare_pattern_record l) h = pattern-named l
+  record-named s _ h = tt
 
   head-named : (s : Style) (l : Label ℕ) → IsNamedLabel size l → IsNamedSubject size (head_in s l).subject
   head-named s (type_label l) h = type-named l

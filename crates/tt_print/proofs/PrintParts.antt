@@ -25,54 +25,54 @@ use Rattle.tt_print.specs.Spelling.{head_of, rename_head, spelled_text}
 
 module _ (item_name : ℕ → Name) (f : Meaning) (s : Style) where
   -- the last child
-  last-text : (first : Bool) (c : Child) → child_text item_name (before_child s first true) s (fill_all f (child_shapes c)) ≡ texts item_name s first (fill_all f (child_shapes c))
+  last-text : (n : ℕ) (c : Child) → child_text item_name (before_child item_name s n true) s (fill_all f (child_shapes c)) ≡ texts item_name s n (fill_all f (child_shapes c))
   unfolding fill_all
-  last-text first child.Absent = refl
-  last-text first (child.Region r) = ap (λ w. before_child s first true ++ w) (sym (append-nil (text_in item_name s (fill f (region_shape r)))))
-  last-text first (child.Node n) = ap (λ w. before_child s first true ++ w) (sym (append-nil (text_in item_name s (fill f (node_shape n)))))
-  last-text first (child.List l) = ap (λ w. before_child s first true ++ w) (sym (append-nil (text_in item_name s (fill f (list_shape l)))))
+  last-text n child.Absent = refl
+  last-text n (child.Region r) = ap (λ w. before_child item_name s n true ++ w) (sym (append-nil (text_in item_name s (fill f (region_shape r)))))
+  last-text n (child.Node m) = ap (λ w. before_child item_name s n true ++ w) (sym (append-nil (text_in item_name s (fill f (node_shape m)))))
+  last-text n (child.List l) = ap (λ w. before_child item_name s n true ++ w) (sym (append-nil (text_in item_name s (fill f (list_shape l)))))
 
   -- a child, and then others
-  child-then : (first : Bool) (c : Child) (us : Shapes) → (c ≡ child.Absent → ⊥)
-      → child_text item_name (before_child s first (are_none (fill_all f us))) s (fill_all f (child_shapes c)) ++ texts item_name s false (fill_all f us)
-      ≡ texts item_name s first (fill_all f (append (child_shapes c) us))
+  child-then : (n : ℕ) (c : Child) (us : Shapes) → (c ≡ child.Absent → ⊥)
+      → child_text item_name (before_child item_name s n (are_none (fill_all f us))) s (fill_all f (child_shapes c)) ++ texts item_name s (suc n) (fill_all f us)
+      ≡ texts item_name s n (fill_all f (append (child_shapes c) us))
   unfolding fill_all
-  child-then first child.Absent us there = absurd (there refl)
-  child-then first (child.Region r) us there =
-      append_assoc (before_child s first (are_none (fill_all f us))) (text_in item_name s (fill f (region_shape r))) (texts item_name s false (fill_all f us))
-  child-then first (child.Node n) us there =
-      append_assoc (before_child s first (are_none (fill_all f us))) (text_in item_name s (fill f (node_shape n))) (texts item_name s false (fill_all f us))
-  child-then first (child.List l) us there =
-      append_assoc (before_child s first (are_none (fill_all f us))) (text_in item_name s (fill f (list_shape l))) (texts item_name s false (fill_all f us))
+  child-then n child.Absent us there = absurd (there refl)
+  child-then n (child.Region r) us there =
+      append_assoc (before_child item_name s n (are_none (fill_all f us))) (text_in item_name s (fill f (region_shape r))) (texts item_name s (suc n) (fill_all f us))
+  child-then n (child.Node m) us there =
+      append_assoc (before_child item_name s n (are_none (fill_all f us))) (text_in item_name s (fill f (node_shape m))) (texts item_name s (suc n) (fill_all f us))
+  child-then n (child.List l) us there =
+      append_assoc (before_child item_name s n (are_none (fill_all f us))) (text_in item_name s (fill f (list_shape l))) (texts item_name s (suc n) (fill_all f us))
 
   two-text : (a b : Child)
-      → child_text item_name (before_child s true (are_none (fill_all f (child_shapes b)))) s (fill_all f (child_shapes a))
-      ++ child_text item_name (before_child s (are_none (fill_all f (child_shapes a))) true) s (fill_all f (child_shapes b))
-      ≡ texts item_name s true (fill_all f (append (child_shapes a) (child_shapes b)))
+      → child_text item_name (before_child item_name s 0 (are_none (fill_all f (child_shapes b)))) s (fill_all f (child_shapes a))
+      ++ child_text item_name (before_child item_name s (count_trees (fill_all f (child_shapes a))) true) s (fill_all f (child_shapes b))
+      ≡ texts item_name s 0 (fill_all f (append (child_shapes a) (child_shapes b)))
   unfolding fill_all
-  two-text child.Absent b = last-text true b
+  two-text child.Absent b = last-text 0 b
   two-text (child.Region r) b =
-      ap (λ w. child_text item_name (before_child s true (are_none (fill_all f (child_shapes b)))) s (fill_all f (child_shapes (child.Region r))) ++ w) (last-text false b)
-      ∙ child-then true (child.Region r) (child_shapes b) (λ e. let never = e in cc)
+      ap (λ w. child_text item_name (before_child item_name s 0 (are_none (fill_all f (child_shapes b)))) s (fill_all f (child_shapes (child.Region r))) ++ w) (last-text 1 b)
+      ∙ child-then 0 (child.Region r) (child_shapes b) (λ e. let never = e in cc)
   two-text (child.Node n) b =
-      ap (λ w. child_text item_name (before_child s true (are_none (fill_all f (child_shapes b)))) s (fill_all f (child_shapes (child.Node n))) ++ w) (last-text false b)
-      ∙ child-then true (child.Node n) (child_shapes b) (λ e. let never = e in cc)
+      ap (λ w. child_text item_name (before_child item_name s 0 (are_none (fill_all f (child_shapes b)))) s (fill_all f (child_shapes (child.Node n))) ++ w) (last-text 1 b)
+      ∙ child-then 0 (child.Node n) (child_shapes b) (λ e. let never = e in cc)
   two-text (child.List l) b =
-      ap (λ w. child_text item_name (before_child s true (are_none (fill_all f (child_shapes b)))) s (fill_all f (child_shapes (child.List l))) ++ w) (last-text false b)
-      ∙ child-then true (child.List l) (child_shapes b) (λ e. let never = e in cc)
+      ap (λ w. child_text item_name (before_child item_name s 0 (are_none (fill_all f (child_shapes b)))) s (fill_all f (child_shapes (child.List l))) ++ w) (last-text 1 b)
+      ∙ child-then 0 (child.List l) (child_shapes b) (λ e. let never = e in cc)
 
   -- both parts
   pub parts-text : (p : Parts)
-      → child_text item_name (before_child s true (are_none (fill_all f (child_shapes p.second)))) s (fill_all f (child_shapes p.first))
-      ++ child_text item_name (before_child s (are_none (fill_all f (child_shapes p.first))) true) s (fill_all f (child_shapes p.second))
-      ≡ texts item_name s true (fill_all f (parts_shapes p))
+      → child_text item_name (before_child item_name s 0 (are_none (fill_all f (child_shapes p.second)))) s (fill_all f (child_shapes p.first))
+      ++ child_text item_name (before_child item_name s (count_trees (fill_all f (child_shapes p.first))) true) s (fill_all f (child_shapes p.second))
+      ≡ texts item_name s 0 (fill_all f (parts_shapes p))
   parts-text p = two-text p.first p.second
 
   -- what is written of both parts is their text
-  pub parts-written : (p : Parts) (a b : Bool) (first second : List ℕ) → a ≡ are_none (fill_all f (child_shapes p.second)) → first ≡ before_child s true a
-      → b ≡ are_none (fill_all f (child_shapes p.first)) → second ≡ before_child s b true
-      → child_text item_name first s (fill_all f (child_shapes p.first)) ++ child_text item_name second s (fill_all f (child_shapes p.second)) ≡ texts item_name s true (fill_all f (parts_shapes p))
-  parts-written p a b first second of_a of_first of_b of_second = rw (of_first, of_second, of_a, of_b) (parts-text p)
+  pub parts-written : (p : Parts) (a : Bool) (n : ℕ) (first second : List ℕ) → a ≡ are_none (fill_all f (child_shapes p.second)) → first ≡ before_child item_name s 0 a
+      → n ≡ count_trees (fill_all f (child_shapes p.first)) → second ≡ before_child item_name s n true
+      → child_text item_name first s (fill_all f (child_shapes p.first)) ++ child_text item_name second s (fill_all f (child_shapes p.second)) ≡ texts item_name s 0 (fill_all f (parts_shapes p))
+  parts-written p a n first second of_a of_first of_n of_second = rw (of_first, of_second, of_a, of_n) (parts-text p)
 
 module _ (f : Meaning) where
   count-then : (c : Child) (us : Shapes) → count_trees (fill_all f (child_shapes c)) + count_trees (fill_all f us) ≡ count_trees (fill_all f (append (child_shapes c) us))
@@ -142,22 +142,26 @@ module _ (f : Meaning) (o : ListSort) where
 module _ (item_name : ℕ → Name) (f : Meaning) (s : Style) (o : ListSort) (list : List Child) (n : ℕ) where
   -- an item, and then the items after it
   pub item-then : (x : Child) → slice_get list n ≡ Some x → AreItems f o list
-      → child_text item_name (before_child s (n == 0) (n + 1 == length list)) s (fill_all f (child_shapes x))
-      ++ texts item_name s (n + 1 == 0) (fill_all f (children_shapes (drop (n + 1) list)))
-      ≡ texts item_name s (n == 0) (fill_all f (children_shapes (drop n list)))
+      → child_text item_name (before_child item_name s n (n + 1 == length list)) s (fill_all f (child_shapes x))
+      ++ texts item_name s (n + 1) (fill_all f (children_shapes (drop (n + 1) list)))
+      ≡ texts item_name s n (fill_all f (children_shapes (drop n list)))
   item-then x here are =
       let low : n < length list = slice_get_within list n x here in
       let start : drop n list ≡ x ∷ drop (n + 1) list = drop-from list n x here in
       let more : n + 1 + length (drop (n + 1) list) ≡ length list = grind (arith, common_steps) in
       let last : are_none (fill_all f (children_shapes (drop (n + 1) list))) ≡ (n + 1 == length list) =
       items-end f o (drop (n + 1) list) (n + 1) (length list) more (All-drop (λ c. IsItem o (child_sort c)) (n + 1) list are) in
-      let later : (n + 1 == 0) ≡ false = grind (arith, nat_tests) in
       let item : IsItem o (child_sort x) = All-head (λ c. IsItem o (child_sort c)) x (drop (n + 1) list) (rw start at (All-drop (λ c. IsItem o (child_sort c)) n list are)) in
-      rw (start, ← last, later) (child-then item_name f s (n == 0) x (children_shapes (drop (n + 1) list)) (item-there o x item))
+      let next : n + 1 ≡ suc n = omega arith in
+      let rest = fill_all f (children_shapes (drop (n + 1) list)) in
+      let whole : child_text item_name (before_child item_name s n (n + 1 == length list)) s (fill_all f (child_shapes x))
+      ++ texts item_name s (suc n) (fill_all f (children_shapes (drop (n + 1) list))) ≡ texts item_name s n (fill_all f (children_shapes (drop n list))) =
+      rw (start, ← last) (child-then item_name f s n x (children_shapes (drop (n + 1) list)) (item-there o x item)) in
+      ap (λ (m : ℕ). child_text item_name (before_child item_name s n (n + 1 == length list)) s (fill_all f (child_shapes x)) ++ texts item_name s m rest) next ∙ whole
 
 module _ (item_name : ℕ → Name) (f : Meaning) where
   -- a child by itself, with nothing around it
-  alone-text : (c : Child) → texts item_name style.Joined true (fill_all f (parts_shapes (one_part c))) ++ closing style.Joined (count_trees (fill_all f (parts_shapes (one_part c))))
+  alone-text : (c : Child) → texts item_name style.Joined 0 (fill_all f (parts_shapes (one_part c))) ++ closing item_name style.Joined (count_trees (fill_all f (parts_shapes (one_part c))))
       ≡ child_text item_name [] style.Joined (fill_all f (child_shapes c))
   unfolding fill_all
   alone-text child.Absent = refl
@@ -170,6 +174,6 @@ module _ (item_name : ℕ → Name) (f : Meaning) where
       → spelled_text item_name f s (fill_all f (parts_shapes (one_part c))) ≡ child_text item_name [] style.Joined (fill_all f (child_shapes c))
   child-spelled s c of_head of_style =
       let ts = fill_all f (parts_shapes (one_part c)) in
-      ap (λ (h : Head ℕ). head_text item_name (rename_head (name_of f) h) ++ (texts item_name s.style true ts ++ closing s.style (count_trees ts))) of_head
-      ∙ ap (λ (x : Style). texts item_name x true ts ++ closing x (count_trees ts)) of_style
+      ap (λ (h : Head ℕ). head_text item_name (rename_head (name_of f) h) ++ (texts item_name s.style 0 ts ++ closing item_name s.style (count_trees ts))) of_head
+      ∙ ap (λ (x : Style). texts item_name x 0 ts ++ closing item_name x (count_trees ts)) of_style
       ∙ alone-text c

@@ -73,26 +73,26 @@ module _ (rows : List Row) where
 
   -- the text after so many children was added
   pub adds-end : (old room new : List Piece) (s : Style) (n : ℕ) → room ≡ old → new ≡ room ++ record { style = s; place = place.After n; child = child.Absent } ∷ []
-      → AddsPieces rows old new (closing s n) 1
+      → AddsPieces rows old new (closing (names rows) s n) 1
   unfolding fill_all
   adds-end old room new s n same is =
       let piece : Piece = record { style = s; place = place.After n; child = child.Absent } in
-      adds-as old new _ _ _ _ (append-nil (closing s n)) (omega arith) (pushed old new piece (is ∙ ap (λ ps. ps ++ piece ∷ []) same) tt)
+      adds-as old new _ _ _ _ (append-nil (closing (names rows) s n)) (omega arith) (pushed old new piece (is ∙ ap (λ ps. ps ++ piece ∷ []) same) tt)
 
   -- a child was added
-  pub adds-child : (old room new : List Piece) (s : Style) (c : Child) (first last : Bool) → are_none (fill_all (meaning rows) (child_shapes c)) ≡ false
-      → room ≡ old → new ≡ room ++ record { style = s; place = place.Before first last; child = c } ∷ [] → AreParts (size rows) (child_shapes c)
-      → AddsPieces rows old new (child_text (names rows) (before_child s first last) s (fill_all (meaning rows) (child_shapes c))) (forest_pieces (fill_all (meaning rows) (child_shapes c)))
+  pub adds-child : (old room new : List Piece) (s : Style) (c : Child) (count : ℕ) (last : Bool) → are_none (fill_all (meaning rows) (child_shapes c)) ≡ false
+      → room ≡ old → new ≡ room ++ record { style = s; place = place.Before count last; child = c } ∷ [] → AreParts (size rows) (child_shapes c)
+      → AddsPieces rows old new (child_text (names rows) (before_child (names rows) s count last) s (fill_all (meaning rows) (child_shapes c))) (forest_pieces (fill_all (meaning rows) (child_shapes c)))
   unfolding fill_all
-  adds-child old room new s child.Absent first last there same is h = let never = there in cc
-  adds-child old room new s (child.Region r) first last there same is h =
-      let piece : Piece = record { style = s; place = place.Before first last; child = child.Region r } in
+  adds-child old room new s child.Absent count last there same is h = let never = there in cc
+  adds-child old room new s (child.Region r) count last there same is h =
+      let piece : Piece = record { style = s; place = place.Before count last; child = child.Region r } in
       adds-as old new _ _ _ _ refl (omega arith) (pushed old new piece (is ∙ ap (λ ps. ps ++ piece ∷ []) same) h)
-  adds-child old room new s (child.Node n) first last there same is h =
-      let piece : Piece = record { style = s; place = place.Before first last; child = child.Node n } in
+  adds-child old room new s (child.Node n) count last there same is h =
+      let piece : Piece = record { style = s; place = place.Before count last; child = child.Node n } in
       adds-as old new _ _ _ _ refl (omega arith) (pushed old new piece (is ∙ ap (λ ps. ps ++ piece ∷ []) same) h)
-  adds-child old room new s (child.List l) first last there same is h =
-      let piece : Piece = record { style = s; place = place.Before first last; child = child.List l } in
+  adds-child old room new s (child.List l) count last there same is h =
+      let piece : Piece = record { style = s; place = place.Before count last; child = child.List l } in
       adds-as old new _ _ _ _ refl (omega arith) (pushed old new piece (is ∙ ap (λ ps. ps ++ piece ∷ []) same) h)
 
   -- an absent child has no text
@@ -148,6 +148,12 @@ module _ (rows : List Row) where
   left-starts a none ps whole work is h =
       let k = rw is at h in
       record { text = ap (λ w. a ++ w) (k.text ∙ append-nil whole); kept = begins-same a; parts = k.parts tt }
+
+  -- a text was begun where nothing was left, and the rest of it is left
+  pub left-begun : (a b : List ℕ) (none ps : List Piece) (whole : List ℕ) (work : ℕ) → none ≡ [] → Opened rows a b none ps whole work → BeginsText a b → Left rows a b ps whole
+  left-begun a b none ps whole work is h kept =
+      let k = rw is at h in
+      record { text = k.text ∙ ap (λ w. a ++ w) (append-nil whole); kept = kept; parts = k.parts tt }
 
   -- all is left
   pub left-all : (a : List ℕ) (ps : List Piece) → ArePieces rows ps → Left rows a a ps (pieces_text rows ps)
@@ -214,25 +220,25 @@ work-list sort.Clauses ts = refl
 
 module _ (rows : List Row) (s : Style) where
   -- both parts were added, after the text after them
-  pub adds-parts : {E : Type 0} (r : Result Unit E) (a b c d : List Piece) (p : Parts) (n : ℕ) (no_first no_second : Bool) → n ≡ count_trees (fill_all (meaning rows) (parts_shapes p))
-      → no_first ≡ are_none (fill_all (meaning rows) (child_shapes p.first)) → no_second ≡ are_none (fill_all (meaning rows) (child_shapes p.second)) → AddsPieces rows a b (closing s n) 1
-      → AddsPieces rows b c (child_text (names rows) (before_child s no_first true) s (fill_all (meaning rows) (child_shapes p.second))) (forest_pieces (fill_all (meaning rows) (child_shapes p.second)))
-      → OnOk r (AddsPieces rows c d (child_text (names rows) (before_child s true no_second) s (fill_all (meaning rows) (child_shapes p.first))) (forest_pieces (fill_all (meaning rows) (child_shapes p.first))))
-      → OnOk r (AddsPieces rows a d (texts (names rows) s true (fill_all (meaning rows) (parts_shapes p)) ++ closing s (count_trees (fill_all (meaning rows) (parts_shapes p))))
+  pub adds-parts : {E : Type 0} (r : Result Unit E) (a b c d : List Piece) (p : Parts) (n before : ℕ) (no_second : Bool) → n ≡ count_trees (fill_all (meaning rows) (parts_shapes p))
+      → before ≡ count_trees (fill_all (meaning rows) (child_shapes p.first)) → no_second ≡ are_none (fill_all (meaning rows) (child_shapes p.second)) → AddsPieces rows a b (closing (names rows) s n) 1
+      → AddsPieces rows b c (child_text (names rows) (before_child (names rows) s before true) s (fill_all (meaning rows) (child_shapes p.second))) (forest_pieces (fill_all (meaning rows) (child_shapes p.second)))
+      → OnOk r (AddsPieces rows c d (child_text (names rows) (before_child (names rows) s 0 no_second) s (fill_all (meaning rows) (child_shapes p.first))) (forest_pieces (fill_all (meaning rows) (child_shapes p.first))))
+      → OnOk r (AddsPieces rows a d (texts (names rows) s 0 (fill_all (meaning rows) (parts_shapes p)) ++ closing (names rows) s (count_trees (fill_all (meaning rows) (parts_shapes p))))
       (suc (forest_pieces (fill_all (meaning rows) (parts_shapes p)))))
-  adds-parts (Ok y) a b c d p n no_first no_second count is_first is_second h k l =
+  adds-parts (Ok y) a b c d p n before no_second count is_first is_second h k l =
       let all = adds-then rows a c d _ _ _ _ (adds-then rows a b c _ _ _ _ h k) l in
-      let first = child_text (names rows) (before_child s true no_second) s (fill_all (meaning rows) (child_shapes p.first)) in
-      let second = child_text (names rows) (before_child s no_first true) s (fill_all (meaning rows) (child_shapes p.second)) in
+      let first = child_text (names rows) (before_child (names rows) s 0 no_second) s (fill_all (meaning rows) (child_shapes p.first)) in
+      let second = child_text (names rows) (before_child (names rows) s before true) s (fill_all (meaning rows) (child_shapes p.second)) in
       adds-as rows a d _ _ _ _
-      (sym (append_assoc first second (closing s n)) ∙ ap (λ w. w ++ closing s n) (parts-written (names rows) (meaning rows) s p _ _ _ _ is_second refl is_first refl)
-      ∙ ap (λ m. texts (names rows) s true (fill_all (meaning rows) (parts_shapes p)) ++ closing s m) count)
+      (sym (append_assoc first second (closing (names rows) s n)) ∙ ap (λ w. w ++ closing (names rows) s n) (parts-written (names rows) (meaning rows) s p _ _ _ _ is_second refl is_first refl)
+      ∙ ap (λ m. texts (names rows) s 0 (fill_all (meaning rows) (parts_shapes p)) ++ closing (names rows) s m) count)
       (let work = work-append (meaning rows) p.first (child_shapes p.second) in omega arith) all
-  adds-parts (Err e) a b c d p n no_first no_second count is_first is_second h k l = tt
+  adds-parts (Err e) a b c d p n before no_second count is_first is_second h k l = tt
 
   -- no item was added yet
-  pub adds-no-item : (list : List Child) (count : ℕ) (old new : List Piece) → count ≡ length list → AddsPieces rows old new (closing s count) 1
-      → AddsPieces rows old new (texts (names rows) s (count == 0) (fill_all (meaning rows) (children_shapes (drop count list))) ++ closing s count)
+  pub adds-no-item : (list : List Child) (count : ℕ) (old new : List Piece) → count ≡ length list → AddsPieces rows old new (closing (names rows) s count) 1
+      → AddsPieces rows old new (texts (names rows) s count (fill_all (meaning rows) (children_shapes (drop count list))) ++ closing (names rows) s count)
       (suc (forest_pieces (fill_all (meaning rows) (children_shapes (drop count list)))))
   unfolding fill_all
   adds-no-item list count old new of_count h =
@@ -242,25 +248,25 @@ module _ (rows : List Row) (s : Style) where
   -- an item was added in front of the later ones
   pub adds-item : (o : ListSort) (list : List Child) (n i count : ℕ) (x : Child) (a b c : List Piece) → i ≡ n + 1 → slice_get list n ≡ Some x → AreItems (meaning rows) o list
       → count ≡ length list
-      → AddsPieces rows a b (texts (names rows) s (i == 0) (fill_all (meaning rows) (children_shapes (drop i list))) ++ closing s count) (suc (forest_pieces (fill_all (meaning rows) (children_shapes (drop i list)))))
-      → AddsPieces rows b c (child_text (names rows) (before_child s (n == 0) (n + 1 == count)) s (fill_all (meaning rows) (child_shapes x))) (forest_pieces (fill_all (meaning rows) (child_shapes x)))
-      → AddsPieces rows a c (texts (names rows) s (n == 0) (fill_all (meaning rows) (children_shapes (drop n list))) ++ closing s count) (suc (forest_pieces (fill_all (meaning rows) (children_shapes (drop n list)))))
+      → AddsPieces rows a b (texts (names rows) s i (fill_all (meaning rows) (children_shapes (drop i list))) ++ closing (names rows) s count) (suc (forest_pieces (fill_all (meaning rows) (children_shapes (drop i list)))))
+      → AddsPieces rows b c (child_text (names rows) (before_child (names rows) s n (n + 1 == count)) s (fill_all (meaning rows) (child_shapes x))) (forest_pieces (fill_all (meaning rows) (child_shapes x)))
+      → AddsPieces rows a c (texts (names rows) s n (fill_all (meaning rows) (children_shapes (drop n list))) ++ closing (names rows) s count) (suc (forest_pieces (fill_all (meaning rows) (children_shapes (drop n list)))))
   adds-item o list n i count x a b c of_i here are of_count h k =
       let before = rw of_i at h in
       let now = rw of_count at k in
-      let item = child_text (names rows) (before_child s (n == 0) (n + 1 == length list)) s (fill_all (meaning rows) (child_shapes x)) in
-      let rest = texts (names rows) s (n + 1 == 0) (fill_all (meaning rows) (children_shapes (drop (n + 1) list))) in
+      let item = child_text (names rows) (before_child (names rows) s n (n + 1 == length list)) s (fill_all (meaning rows) (child_shapes x)) in
+      let rest = texts (names rows) s (n + 1) (fill_all (meaning rows) (children_shapes (drop (n + 1) list))) in
       let work = work-append (meaning rows) x (children_shapes (drop (n + 1) list)) in
       let start : forest_pieces (fill_all (meaning rows) (children_shapes (drop n list))) ≡ forest_pieces (fill_all (meaning rows) (append (child_shapes x) (children_shapes (drop (n + 1) list)))) =
       ap (λ (cs : List Child). forest_pieces (fill_all (meaning rows) (children_shapes cs))) (drop-from list n x here) in
       adds-as rows a c _ _ _ _
-      (sym (append_assoc item rest (closing s count)) ∙ ap (λ w. w ++ closing s count) (item-then (names rows) (meaning rows) s o list n x here are))
+      (sym (append_assoc item rest (closing (names rows) s count)) ∙ ap (λ w. w ++ closing (names rows) s count) (item-then (names rows) (meaning rows) s o list n x here are))
       (omega arith) (adds-then rows a b c _ _ _ _ before now)
 
 -- all items of a list were added
 pub adds-list : (rows : List Row) (s x : Style) (o : ListSort) (list : List Child) (t : Tree Depth) (n count : ℕ) (old new : List Piece) → n ≤ 0
     → x ≡ style_in {N = Name} s (items_label o) → t ≡ items_tree o (fill_all (meaning rows) (children_shapes list)) → count ≡ length list → AreItems (meaning rows) o list
-    → AddsPieces rows old new (texts (names rows) x (n == 0) (fill_all (meaning rows) (children_shapes (drop n list))) ++ closing x count) (suc (forest_pieces (fill_all (meaning rows) (children_shapes (drop n list)))))
+    → AddsPieces rows old new (texts (names rows) x n (fill_all (meaning rows) (children_shapes (drop n list))) ++ closing (names rows) x count) (suc (forest_pieces (fill_all (meaning rows) (children_shapes (drop n list)))))
     → AddsPieces rows old new (text_in (names rows) s t) (inner_work t)
 adds-list rows s x o list t n count old new ended of_style of_tree of_count are h =
     let zero_left : n ≡ 0 = omega arith in

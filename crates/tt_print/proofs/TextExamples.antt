@@ -1,5 +1,5 @@
 -- Terms and their texts, and terms that differ and have texts that differ.
-use Rattle.std.proofs.Common.{◌≡◌, ℕ, suc, zero, ◌+◌, Some, None, List, [], ◌∷◌, Bool, true, false, refl}
+use Rattle.std.proofs.Common.{◌≡◌, ℕ, suc, zero, Some, None, List, [], ◌∷◌, Bool, true, false, refl}
 use Rattle.std.specs.Prelude.{◌&&◌, codes}
 use Rattle.std.specs.Fmt.{digits}
 use Rattle.std.specs.Str.{bytes_eq}
@@ -39,7 +39,9 @@ use Rattle.tt_kinds.specs.Label.{projection_record, const_has_type_record, well_
 use Rattle.tt_kinds.specs.Label.{unstable_feature_record, dyn_compatible_record, subtype_record, coerce_record}
 use Rattle.tt_kinds.specs.Label.{const_equate_record, ambiguous_record, normalizes_to_record, alias_relate_record}
 use Rattle.tt_kinds.specs.Label.{existential_trait_record, existential_projection_record, auto_trait_record}
-use Rattle.tt_kinds.specs.Label.{trait_ref_record, alias_term_record, alias_ty_record, fn_sig_record, param_env_record}
+use Rattle.tt_kinds.specs.Label.{trait_ref_record, alias_term_record, alias_ty_record, outlives_record, fn_sig_record}
+use Rattle.tt_kinds.specs.Label.{param_env_record, bare_param_record, bare_bound_record, bare_type_record}
+use Rattle.tt_kinds.specs.Label.{bare_const_record, bare_pattern_record, error_label}
 use Rattle.tt_kinds.specs.Label.{type_label, const_label, pattern_label, predicate_label, existential_label}
 use Rattle.tt_kinds.specs.Label.{clause_list_label, list_label, record_label}
 use Rattle.tt_kinds.specs.Tree.{Depth, at, canonical, Tree, param, bound, region, term, node, binder, Forest, none}
@@ -375,12 +377,16 @@ predicate l ts = term predicate_label (one (binder [] (value_of l ts)))
 
 -- each kind of clause, with its parts
 clauses : AreWritten (
-    (predicate (trait_record 1) (one (args (one parameter))), codes "TraitPredicate(Iterator<T>)")
-    ∷ (predicate (host_effect_record 1 constness.Const) (one (args (one parameter))), codes "HostEffectPredicate(const Iterator<T>)")
-    ∷ (predicate (host_effect_record 1 constness.Maybe) (one (args (one parameter))), codes "HostEffectPredicate([const] Iterator<T>)")
-    ∷ (predicate (projection_record 2) (two (args (one parameter)) (number 1)), codes "ProjectionPredicate(Iterator::Item<T>, 1:8_usize)")
-    ∷ (predicate region_outlives_record (two lifetime static), codes "OutlivesPredicate('a, 'static)")
-    ∷ (predicate type_outlives_record (two parameter static), codes "OutlivesPredicate(T, 'static)")
+    (predicate (trait_record 1) (one (args (one parameter))), codes "T: Iterator")
+    ∷ (predicate (trait_record 0) (one (args (two u32 lifetime))), codes "u32: Vec<'a>")
+    ∷ (predicate (trait_record 0) (one (args (three (reference u32) parameter (number 4)))), codes "&'static u32: Vec<T, 4:8_usize>")
+    ∷ (predicate (trait_record 1) (one (args none)), codes ": Iterator")
+    ∷ (predicate (host_effect_record 1 constness.Const) (one (args (one parameter))), codes "T: const Iterator")
+    ∷ (predicate (host_effect_record 1 constness.Maybe) (one (args (two parameter u32))), codes "T: [const] Iterator<u32>")
+    ∷ (predicate (projection_record 2) (two (args (one parameter)) (number 1)), codes "Iterator::Item<T> == 1:8_usize")
+    ∷ (predicate (projection_record 2) (two (args none) u32), codes "Iterator::Item == u32")
+    ∷ (predicate region_outlives_record (two lifetime static), codes "'a: 'static")
+    ∷ (predicate type_outlives_record (two parameter static), codes "T: 'static")
     ∷ (predicate const_has_type_record (two (number 1) parameter), codes "ConstArgHasType(1:8_usize, T)")
     ∷ (predicate well_formed_record (one (number 1)), codes "WellFormed(1:8_usize)")
     ∷ (predicate const_evaluatable_record (one (number 1)), codes "ConstEvaluatable(1:8_usize)")
@@ -413,13 +419,28 @@ by_itself : AreWritten (
     ∷ (types none, codes "[]")
     ∷ (value_of (trait_ref_record 1) (one (args (one parameter))), codes "Iterator<T>")
     ∷ (binder (region_variable anonymous ∷ []) (value_of (trait_ref_record 1) (one (args (one parameter)))), codes "for<'^0> Iterator<T>")
+    ∷ (binder (region_variable anonymous ∷ []) (value_of (trait_record 1) (one (args (one parameter)))), codes "for<'^0> T: Iterator")
+    ∷ (value_of outlives_record (two parameter static), codes "T: 'static")
     ∷ (value_of (alias_term_record 2) (one (args (one parameter))), codes "Iterator::Item<T>")
     ∷ (value_of (alias_ty_record (alias.Projection (id_of 2))) (one (args (one parameter))), codes "Iterator::Item<T>")
     ∷ (value_of (fn_sig_record (made abi.Rust Unsafe false)) (one (types (two parameter u32))), codes "unsafe fn(T) -> u32")
     ∷ (
       value_of param_env_record (one (term clause_list_label (two (predicate (trait_record 1) (one (args (one parameter)))) (predicate ambiguous_record none)))),
-      codes "ParamEnv([TraitPredicate(Iterator<T>), Ambiguous])",
+      codes "ParamEnv([T: Iterator, Ambiguous])",
     )
     ∷ [])
 unfolding digits
 by_itself = refl
+
+-- kinds that aren't stored: each has the text of the stored term
+kinds : AreWritten (
+    (value_of (bare_param_record type_sort 0 (codes "T")) none, codes "T")
+    ∷ (value_of (bare_bound_record region_sort (Some 2) (record { var = 1; kind = region_variable anonymous })) none, codes "'^2.1")
+    ∷ (value_of (bare_bound_record const_sort None (record { var = 1; kind = const_variable })) none, codes "^c.1c")
+    ∷ (value_of (bare_type_record tuple_type) (one (types (one parameter))), codes "(T,)")
+    ∷ (value_of (bare_type_record (error_type 1)) (one (node (error_label 1) none)), codes "{type error}")
+    ∷ (value_of (bare_const_record (leaf_const 4 8)) (one usize), codes "4:8_usize")
+    ∷ (value_of (bare_pattern_record range_pattern) (two (number 1) (number 9)), codes "1:8_usize..=9:8_usize")
+    ∷ [])
+unfolding digits
+kinds = refl

@@ -1,5 +1,6 @@
 -- The pieces of a text that are still to be written.
 use Rattle.std.specs.Prelude.{ℕ, suc, ◌+◌, ◌≤◌, List, [], ◌∷◌, ◌++◌, ◌≡◌, Result, OnOk}
+use Rattle.tt_kinds.specs.Label.{Name}
 use Rattle.tt_kinds.specs.Tree.{Depth, Tree, Forest, param, bound, region, term, node, binder, none, also}
 use Rattle.tt_kinds.specs.Shape.{fill_all, AreParts}
 use Rattle.tt_kinds.specs.Kinds.{child_shapes}
@@ -10,10 +11,10 @@ use Rattle.tt_print.specs.declared.ir_print.layout.Place.TheVariants as place
 use Rattle.tt_print.specs.declared.ir_print.pieces.Piece.{Piece}
 use Rattle.tt_print.specs.Text.{before_child, closing, names, child_text, BeginsText}
 
--- the text at a place
-abbrev pub place_text : Style → Place → List ℕ
-place_text s (place.Before first last) = before_child s first last
-place_text s (place.After n) = closing s n
+-- the text at a place, with declarations of these names
+abbrev pub place_text : (ℕ → Name) → Style → Place → List ℕ
+place_text item_name s (place.Before n last) = before_child item_name s n last
+place_text item_name s (place.After n) = closing item_name s n
 
 abbrev mutual
   -- how many pieces a tree's text is made of, without the piece that is the tree
@@ -38,7 +39,7 @@ inner_child_work (also t ts) = inner_work t
 module _ (rows : List Row) where
   -- the text of a piece
   abbrev pub piece_text : Piece → List ℕ
-  piece_text p = place_text p.style p.place ++ child_text (names rows) [] p.style
+  piece_text p = place_text (names rows) p.style p.place ++ child_text (names rows) [] p.style
       (fill_all (meaning rows) (child_shapes p.child))
 
   -- the texts of pieces, from the last piece to the first

@@ -1,5 +1,5 @@
 -- How the kinds of terms are spelled: their heads and styles, by their labels.
-use Rattle.std.specs.Prelude.{ℕ, ◌<◌, true, List, [], ◌++◌, Option, Some, None}
+use Rattle.std.specs.Prelude.{ℕ, ◌<◌, List, [], ◌++◌, Option, Some, None}
 use Rattle.tt_kinds.specs.Label.{Name, Sort, Label}
 use Rattle.tt_kinds.specs.Kinds.{Form, param, bound, plain, under}
 use Rattle.tt_kinds.specs.Shape as shape
@@ -82,4 +82,4 @@ binder_text item_name f (Some vars) = variables_text item_name 0 (vars_of (f Var
 -- the text of a spelling, with these children
 abbrev pub spelled_text : (ℕ → Name) → Meaning → Spelling → Forest Depth → List ℕ
 spelled_text item_name f s ts = head_text item_name (rename_head (name_of f) (head_of s))
-    ++ (texts item_name s.style true ts ++ closing s.style (count_trees ts))
+    ++ (texts item_name s.style 0 ts ++ closing item_name s.style (count_trees ts))

@@ -1,7 +1,7 @@
 -- The texts of terms. Each is made from the term's tree: the node's head, then its children in order with separators
 -- between them, then its end.
-use Rattle.std.specs.Prelude.{ℕ, zero, suc, Bool, true, false, nat_lt, if◌then◌else◌, Option, None, Some, List, [], ◌∷◌}
-use Rattle.std.specs.Prelude.{◌++◌, codes, decimal, ◌≡◌, Result, OnOk}
+use Rattle.std.specs.Prelude.{ℕ, zero, suc, Bool, true, false, nat_lt, ◌==◌, if◌then◌else◌, Option, None, Some, List}
+use Rattle.std.specs.Prelude.{[], ◌∷◌, ◌++◌, codes, decimal, ◌≡◌, Result, OnOk}
 use Rattle.tt_index.specs.declared.numeric.IntTy.{IntTy}
 use Rattle.tt_index.specs.declared.numeric.IntTy.TheVariants as int
 use Rattle.tt_index.specs.declared.numeric.UintTy.{UintTy}
@@ -46,8 +46,9 @@ use Rattle.tt_kinds.specs.Label.{well_formed_record, const_evaluatable_record, u
 use Rattle.tt_kinds.specs.Label.{dyn_compatible_record, subtype_record, coerce_record, const_equate_record}
 use Rattle.tt_kinds.specs.Label.{ambiguous_record, normalizes_to_record, alias_relate_record, existential_trait_record}
 use Rattle.tt_kinds.specs.Label.{existential_projection_record, auto_trait_record, trait_ref_record, alias_term_record}
-use Rattle.tt_kinds.specs.Label.{alias_ty_record, fn_sig_record, param_env_record, Label, type_label, const_label}
-use Rattle.tt_kinds.specs.Label.{pattern_label, clause_list_label, list_label, record_label}
+use Rattle.tt_kinds.specs.Label.{alias_ty_record, outlives_record, fn_sig_record, param_env_record, bare_param_record}
+use Rattle.tt_kinds.specs.Label.{bare_bound_record, bare_type_record, bare_const_record, bare_pattern_record, Label}
+use Rattle.tt_kinds.specs.Label.{type_label, const_label, pattern_label, clause_list_label, list_label, record_label}
 use Rattle.tt_kinds.specs.Tree.{Depth, at, canonical, Tree, Forest, param, bound, region, term, node, binder, none}
 use Rattle.tt_kinds.specs.Tree.{also, count_trees}
 use Rattle.tt_kinds.specs.Shape.{name_of}
@@ -205,11 +206,6 @@ module _ {N : Type 0} where
   pattern_head or_pattern = word (codes "(")
   pattern_head not_null_pattern = word (codes "!null")
 
-  -- the head of a predicate on the effects of a trait's items
-  abbrev pub effect_head : BoundConstness → ℕ → Head N
-  effect_head constness.Const d = with_word (codes "HostEffectPredicate(const ") (item d)
-  effect_head constness.Maybe d = with_word (codes "HostEffectPredicate([const] ") (item d)
-
   -- the head of a subtyping predicate, which says whether the first type is the expected one
   abbrev pub subtype_head : Bool → Head N
   subtype_head true = word (codes "SubtypePredicate(a_is_expected: true, ")
@@ -224,15 +220,20 @@ module _ {N : Type 0} where
   }
   fn_head _ = no_head
 
+  -- the mark of a bound variable, and its numbers
+  abbrev pub bound_head : Sort → Depth → ℕ → Head N
+  bound_head region_sort (at d) var = with_word (codes "'^") (paired d var)
+  bound_head region_sort canonical var = with_word (codes "'^c.") (numbered var)
+  bound_head type_sort (at d) var = with_word (codes "^") (paired d var)
+  bound_head type_sort canonical var = with_word (codes "^c.") (numbered var)
+  bound_head const_sort (at d) var = record { before = codes "^"; subject = paired d var; after = codes "c" }
+  bound_head const_sort canonical var = record { before = codes "^c."; subject = numbered var; after = codes "c" }
+
   -- the heads of records in a term of the style
   abbrev pub record_head : Style → RecordLabel N → Head N
   record_head s fn_sig_tys_record = fn_head s
   record_head s unsafe_binder_record = word (codes "unsafe binder ")
-  record_head s (trait_record d) = with_word (codes "TraitPredicate(") (item d)
-  record_head s (host_effect_record d c) = effect_head c d
-  record_head s region_outlives_record = word (codes "OutlivesPredicate(")
-  record_head s type_outlives_record = word (codes "OutlivesPredicate(")
-  record_head s (projection_record d) = with_word (codes "ProjectionPredicate(") (item d)
+  record_head s (projection_record d) = with_word [] (item d)
   record_head s const_has_type_record = word (codes "ConstArgHasType(")
   record_head s well_formed_record = word (codes "WellFormed(")
   record_head s const_evaluatable_record = word (codes "ConstEvaluatable(")
@@ -252,6 +253,12 @@ module _ {N : Type 0} where
   record_head s (alias_ty_record k) = with_word [] (item (alias_number k))
   record_head s (fn_sig_record k) = fn_head (style.Signature k)
   record_head s param_env_record = word (codes "ParamEnv(")
+  record_head s (bare_param_record o i name) = with_word [] (called name)
+  record_head s (bare_bound_record o (Some d) e) = bound_head o (at d) e.var
+  record_head s (bare_bound_record o None e) = bound_head o canonical e.var
+  record_head s (bare_type_record l) = type_head l
+  record_head s (bare_const_record l) = const_head l
+  record_head s (bare_pattern_record l) = pattern_head l
   record_head s _ = no_head
 
   -- the head of a label in a term of the style
@@ -261,15 +268,6 @@ module _ {N : Type 0} where
   head_in s (pattern_label l) = pattern_head l
   head_in s (record_label l) = record_head s l
   head_in s _ = no_head
-
-  -- the mark of a bound variable, and its numbers
-  abbrev pub bound_head : Sort → Depth → ℕ → Head N
-  bound_head region_sort (at d) var = with_word (codes "'^") (paired d var)
-  bound_head region_sort canonical var = with_word (codes "'^c.") (numbered var)
-  bound_head type_sort (at d) var = with_word (codes "^") (paired d var)
-  bound_head type_sort canonical var = with_word (codes "^c.") (numbered var)
-  bound_head const_sort (at d) var = record { before = codes "^"; subject = paired d var; after = codes "c" }
-  bound_head const_sort canonical var = record { before = codes "^c."; subject = numbered var; after = codes "c" }
 
   -- the name of a region
   abbrev pub region_name_head : RegionName N → Head N
@@ -351,11 +349,11 @@ relation_style direction.Subtype = style.Subtyped
 -- the style of a record's members, in a term of this style
 abbrev pub record_style : {N : Type 0} → Style → RecordLabel N → Style
 record_style s fn_sig_tys_record = s
-record_style s (trait_record d) = style.Record
-record_style s (host_effect_record d c) = style.Record
-record_style s region_outlives_record = style.Record
-record_style s type_outlives_record = style.Record
-record_style s (projection_record d) = style.Record
+record_style s (trait_record d) = style.Bound None d
+record_style s (host_effect_record d c) = style.Bound (Some c) d
+record_style s region_outlives_record = style.Outlives
+record_style s type_outlives_record = style.Outlives
+record_style s (projection_record d) = style.Equality
 record_style s const_has_type_record = style.Record
 record_style s well_formed_record = style.Record
 record_style s const_evaluatable_record = style.Record
@@ -371,8 +369,12 @@ record_style s (existential_projection_record d) = style.Generic
 record_style s (trait_ref_record d) = style.Generic
 record_style s (alias_term_record d) = style.Generic
 record_style s (alias_ty_record k) = style.Generic
+record_style s outlives_record = style.Outlives
 record_style s (fn_sig_record k) = style.Signature k
 record_style s param_env_record = style.Record
+record_style s (bare_type_record l) = type_style l
+record_style s (bare_const_record l) = const_style l
+record_style s (bare_pattern_record l) = pattern_style l
 record_style s _ = style.Joined
 
 -- the style of a list in a term of this style
@@ -380,6 +382,8 @@ abbrev pub list_style : Style → Style
 list_style style.Generic = style.Arguments
 list_style style.Braced = style.Arguments
 list_style style.Record = style.Arguments
+list_style style.Equality = style.Arguments
+list_style (style.Bound c d) = style.SelfFirst c d
 list_style style.Tuple = style.Elements
 list_style (style.Signature k) = if is_variadic_in k then style.VariadicInputs else style.Inputs
 list_style style.Dynamic = style.Bounds
@@ -397,31 +401,34 @@ style_in s clause_list_label = style.Listed
 style_in s (list_label t) = list_style s
 style_in s _ = style.Joined
 
--- the text in front of a first child, which may also be the last
-abbrev pub opening_text : Style → Bool → List ℕ
-opening_text style.Listed last = codes "["
-opening_text style.Arguments last = codes "<"
-opening_text style.Elements last = codes "("
-opening_text style.Values last = codes "("
-opening_text style.Inputs true = codes "() -> "
-opening_text style.Inputs false = codes "("
-opening_text style.VariadicInputs true = codes "(...) -> "
-opening_text style.VariadicInputs false = codes "("
-opening_text _ last = []
+-- the words in front of a first child, which may also be the last
+abbrev pub opening_words : Style → Bool → List ℕ
+opening_words style.Listed last = codes "["
+opening_words style.Arguments last = codes "<"
+opening_words style.Elements last = codes "("
+opening_words style.Values last = codes "("
+opening_words style.Inputs true = codes "() -> "
+opening_words style.Inputs false = codes "("
+opening_words style.VariadicInputs true = codes "(...) -> "
+opening_words style.VariadicInputs false = codes "("
+opening_words _ last = []
 
--- the text in front of a later child, which may be the last
+-- the words in front of a later child, which may be the last
 abbrev pub separator : Style → Bool → List ℕ
 separator style.Reference last = codes " "
 separator style.MutReference last = codes " mut "
 separator style.Square last = codes "; "
 separator style.Restricted last = codes " is "
 separator style.Generic last = codes " = "
+separator style.Equality last = codes " == "
+separator style.Outlives last = codes ": "
 separator style.Range last = codes "..="
 separator style.Record last = codes ", "
 separator style.Equated last = codes ", Equate, "
 separator style.Subtyped last = codes ", Subtype, "
 separator style.Listed last = codes ", "
 separator style.Arguments last = codes ", "
+separator (style.SelfFirst c d) last = codes ", "
 separator style.Elements last = codes ", "
 separator style.Values last = codes ", "
 separator style.Inputs true = codes ") -> "
@@ -432,32 +439,42 @@ separator style.Bounds last = codes " + "
 separator style.Alternatives last = codes " | "
 separator _ last = []
 
--- the text in front of a child
-abbrev pub before_child : Style → Bool → Bool → List ℕ
-before_child s true last = opening_text s last
-before_child s false last = separator s last
+-- the words in front of the child after this number of others, and after the name of a trait if it comes here
+abbrev pub words_before : Style → ℕ → Bool → List ℕ
+words_before (style.SelfFirst c d) (suc zero) last = codes "<"
+words_before s zero last = opening_words s last
+words_before s (suc n) last = separator s last
 
--- the text after this number of children
-abbrev pub closing : Style → ℕ → List ℕ
-closing style.Square n = codes "]"
-closing style.Restricted n = codes ")"
-closing style.OneOf n = codes ")"
-closing style.Braced n = codes "}"
-closing style.Record n = codes ")"
-closing style.Equated n = codes ")"
-closing style.Subtyped n = codes ")"
-closing style.Listed zero = codes "[]"
-closing style.Listed (suc n) = codes "]"
-closing style.Arguments zero = []
-closing style.Arguments (suc n) = codes ">"
-closing style.Elements zero = codes "()"
-closing style.Elements (suc zero) = codes ",)"
-closing style.Elements (suc (suc n)) = codes ")"
-closing style.Values zero = codes "()"
-closing style.Values (suc n) = codes ")"
-closing style.Bounds zero = []
-closing style.Bounds (suc n) = codes " + "
-closing _ n = []
+-- the words after this number of children, and after the name of a trait if it comes here
+abbrev pub closing_words : Style → ℕ → List ℕ
+closing_words style.Square n = codes "]"
+closing_words style.Restricted n = codes ")"
+closing_words style.OneOf n = codes ")"
+closing_words style.Braced n = codes "}"
+closing_words style.Record n = codes ")"
+closing_words style.Equated n = codes ")"
+closing_words style.Subtyped n = codes ")"
+closing_words style.Listed zero = codes "[]"
+closing_words style.Listed (suc n) = codes "]"
+closing_words style.Arguments zero = []
+closing_words style.Arguments (suc n) = codes ">"
+closing_words (style.SelfFirst c d) zero = []
+closing_words (style.SelfFirst c d) (suc zero) = []
+closing_words (style.SelfFirst c d) (suc (suc n)) = codes ">"
+closing_words style.Elements zero = codes "()"
+closing_words style.Elements (suc zero) = codes ",)"
+closing_words style.Elements (suc (suc n)) = codes ")"
+closing_words style.Values zero = codes "()"
+closing_words style.Values (suc n) = codes ")"
+closing_words style.Bounds zero = []
+closing_words style.Bounds (suc n) = codes " + "
+closing_words _ n = []
+
+-- the words between a self type and the name of a trait, of a bound on the effects of the trait's items too
+abbrev pub bound_words : Option BoundConstness → List ℕ
+bound_words None = codes ": "
+bound_words (Some constness.Const) = codes ": const "
+bound_words (Some constness.Maybe) = codes ": [const] "
 
 -- the text in front of the variable at this place in a binder's list
 abbrev pub before_variable : ℕ → List ℕ
@@ -499,22 +516,35 @@ module _ (item_name : ℕ → Name) where
   variables_text n [] = after_variables n
   variables_text n (v ∷ vs) = before_variable n ++ (variable_text n v ++ variables_text (suc n) vs)
 
+  -- the text of a bound between the self type and the trait's other arguments, if this is the place for it
+  abbrev pub trait_text : Style → Bool → List ℕ
+  trait_text (style.SelfFirst c d) true = bound_words c ++ item_name d
+  trait_text _ here = []
+
+  -- the text in front of the child after this number of others, which may be the last
+  abbrev pub before_child : Style → ℕ → Bool → List ℕ
+  before_child s n last = trait_text s (n == 1) ++ words_before s n last
+
+  -- the text after this number of children
+  abbrev pub closing : Style → ℕ → List ℕ
+  closing s n = trait_text s (nat_lt n 2) ++ closing_words s n
+
   abbrev mutual
     -- the text of a tree in a term of the style
     pub text_in : Style → Tree Depth → List ℕ
     text_in s (param o i name) = name
     text_in s (bound o d e) = head_text (bound_head o d e.var)
     text_in s (region r) = head_text (free_head r)
-    text_in s (term l ts) = head_text (head_in s l) ++ (texts (style_in s l) true ts
+    text_in s (term l ts) = head_text (head_in s l) ++ (texts (style_in s l) 0 ts
         ++ closing (style_in s l) (count_trees ts))
-    text_in s (node l ts) = head_text (head_in s l) ++ (texts (style_in s l) true ts
+    text_in s (node l ts) = head_text (head_in s l) ++ (texts (style_in s l) 0 ts
         ++ closing (style_in s l) (count_trees ts))
     text_in s (binder vs t) = variables_text 0 vs ++ text_in s t
 
-    -- the texts of children, each with the text in front of it; the first of them may be the first of all
-    pub texts : Style → Bool → Forest Depth → List ℕ
-    texts s first none = []
-    texts s first (also t ts) = before_child s first (are_none ts) ++ (text_in s t ++ texts s false ts)
+    -- the texts of the children after this number of others, each with the text in front of it
+    pub texts : Style → ℕ → Forest Depth → List ℕ
+    texts s n none = []
+    texts s n (also t ts) = before_child s n (are_none ts) ++ (text_in s t ++ texts s (suc n) ts)
 
   -- the text of one child, with the text in front of it, or nothing for an absent child
   abbrev pub child_text : List ℕ → Style → Forest Depth → List ℕ

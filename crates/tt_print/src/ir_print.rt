@@ -21,7 +21,15 @@ ghost use Rattle.tt_kinds.specs.declared.table.Table.TheVariants.{Symbols, VarLi
 ghost use Rattle.tt_kinds.specs.Handle.{BoundVarKinds};
 ghost use Rattle.tt_interner.specs.Owned.{IsPartBy, tree_by};
 ghost use Rattle.tt_interner.specs.Rows.{meaning, size};
-ghost use Rattle.tt_print.specs.Pieces.{ArePieces, OpensText, inner_child_work, inner_work, piece_text, pieces_text};
+ghost use Rattle.tt_print.specs.Pieces.{
+  ArePieces,
+  OpensText,
+  inner_child_work,
+  inner_work,
+  piece_text,
+  pieces_text,
+  place_text,
+};
 ghost use Rattle.tt_print.specs.Spelling.{
   IsNamedSubject,
   binder_text,
@@ -33,6 +41,7 @@ ghost use Rattle.tt_print.specs.Spelling.{
 };
 ghost use Rattle.tt_print.specs.Text.{
   Writes,
+  bound_words,
   child_text,
   head_text,
   names,
@@ -43,6 +52,7 @@ ghost use Rattle.tt_print.specs.Text.{
   subject_text,
   text,
   text_in,
+  trait_text,
   variable_text,
   variables_text,
 };
@@ -55,7 +65,7 @@ mod values;
 mod words;
 
 use itoa::Buffer;
-use layout::{Style, after_variables, before_variable};
+use layout::{Place, Style, after_variables, before_variable};
 use pieces::{Piece, Pieces, push_list, push_parts};
 use smallvec::SmallVec;
 use spelling::{
@@ -69,6 +79,7 @@ use tt_kinds::{
     Symbol, Term, TermKind, Ty,
 };
 use tt_visit::TypeVisitable;
+use words::bound_words;
 
 // Appends the text.
 fn write_text(out: &mut String, words: &str) -> Result<(), AllocError>
@@ -84,8 +95,8 @@ fn write_number(out: &mut String, number: u32) -> Result<(), AllocError>
     out.push_str(Buffer::new().format(number))
 }
 
-// Appends the place in a list.
-fn write_place(out: &mut String, place: usize) -> Result<(), AllocError>
+// Appends the number of a place in a list.
+fn write_count(out: &mut String, place: usize) -> Result<(), AllocError>
     ensures { Writes result (string_bytes out.old) (string_bytes out.new) (decimal place) }
 {
     out.push_str(Buffer::new().format(place))
@@ -217,7 +228,7 @@ fn write_subject(cx: &Interner, out: &mut String, subject: &Subject) -> Result<(
         Subject::Words(words) => write_text(out, *words),
         Subject::Convention(words, index) => write_convention(out, *words, *index),
         Subject::Numbered(number) => write_number(out, *number),
-        Subject::Counted(place) => write_place(out, *place),
+        Subject::Counted(place) => write_count(out, *place),
         Subject::Paired(first, second) => write_pair(out, *first, *second),
         Subject::Sized(bits, size) => write_sized(out, *bits, *size),
         Subject::Item(id) => write_item(cx, out, *id),
@@ -352,6 +363,40 @@ fn write_kind(
     push_parts(pieces, spelling.style, &parts)
 }
 
+// Appends the text of a bound between the self type and the trait's other arguments, if this is the place for it.
+fn write_trait(cx: &Interner, out: &mut String, style: Style, here: bool) -> Result<(), AllocError>
+    ensures { Writes result (string_bytes out.old) (string_bytes out.new) (trait_text (names cx.now.rows) style here) }
+{
+    match (style, here) {
+        (Style::SelfFirst(constness, number), true) => {
+            write_text(out, bound_words(constness))?;
+            write_item(cx, out, DefId::from_number(number))
+        }
+        _ => Ok(()),
+    }
+}
+
+// Appends the text at this place of a term of this style.
+fn write_place(
+    cx: &Interner,
+    out: &mut String,
+    style: Style,
+    place: Place,
+) -> Result<(), AllocError>
+    ensures { Writes result (string_bytes out.old) (string_bytes out.new) (place_text (names cx.now.rows) style place) }
+{
+    match place {
+        Place::Before { count, last } => {
+            write_trait(cx, out, style, count == 1)?;
+            write_text(out, style.before_child(count, last))
+        }
+        Place::After(count) => {
+            write_trait(cx, out, style, count < 2)?;
+            write_text(out, style.closing(count))
+        }
+    }
+}
+
 // Appends the text at the place of a piece, and begins its child.
 fn write_piece(
     cx: &Interner,
@@ -370,7 +415,7 @@ fn write_piece(
         (piece_text cx.now.rows piece.now)
         (inner_child_work (fill_all (meaning cx.now.rows) (child_shapes piece.now.child))) }
 {
-    write_text(out, piece.style.text_at(piece.place))?;
+    write_place(cx, out, piece.style, piece.place)?;
     match piece.child {
         Child::Absent => Ok(()),
         Child::Region(region) => write_region(cx, out, region),
@@ -412,6 +457,34 @@ fn write_record(
     let mut pieces: Pieces = SmallVec::new(cx.allocator());
     push_parts(&mut pieces, spelling.style, parts)?;
     write_pieces(cx, out, &mut pieces)
+}
+
+// Appends the text of a stored term of this kind.
+fn write_stored(cx: &Interner, out: &mut String, kind: &Kind) -> Result<(), AllocError>
+    requires { HasParts (size cx.now.rows) (kind_shape kind.now) }
+    ensures { Writes result (string_bytes out.old) (string_bytes out.new)
+        (text (names cx.now.rows) (tree_by kind_shape cx.now.rows kind.now)) }
+{
+    let mut rest: Pieces = SmallVec::new(cx.allocator());
+    write_kind(cx, out, &mut rest, kind)?;
+    write_pieces(cx, out, &mut rest)
+}
+
+// Appends the text of a stored term of this kind, or nothing if memory for it is refused.
+fn print_kind(cx: &Interner, out: &mut String, kind: &Kind) -> Result<(), AllocError>
+    requires { HasParts (size cx.now.rows) (kind_shape kind.now) }
+    ensures ok { OnOk result (string_bytes out.new
+        ≡ string_bytes out.old ++ text (names cx.now.rows) (tree_by kind_shape cx.now.rows kind.now)) }
+    ensures err { OnErr result (string_bytes out.new ≡ string_bytes out.old) }
+{
+    let old = out.len();
+    match write_stored(cx, out, kind) {
+        Ok(()) => Ok(()),
+        Err(e) => {
+            out.truncate(old);
+            Err(e)
+        }
+    }
 }
 
 // Appends the head of this spelling and the parts after it, or nothing if memory for them is refused.
@@ -466,6 +539,8 @@ fn print_child(cx: &Interner, out: &mut String, child: &Child) -> Result<(), All
 /// - A binder's variables are numbered. A constant's number has a `c` at its end, and a name comes after its number:
 ///   `for<'^0, ^1 T, ^2c> fn(^0.1) -> ()`. A binder without variables isn't written.
 /// - An associated type comes after its trait: `Iterator::Item<T>`.
+/// - Clauses are close to the bounds of a program: `T: Iterator`, `T: const Add<u32>`, `T: 'static`,
+///   `Iterator::Item<T> == u32`. Other predicates are records: `WellFormed(T)`.
 /// - A value is its bits, its size in bytes and its type: `4:8_usize`.
 ///
 /// Texts are made to tell terms apart, but no contract promises that different terms have different texts. Names are

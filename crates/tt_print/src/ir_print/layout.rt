@@ -1,18 +1,17 @@
 //! The styles of a term's children: what is written before, between and after them.
 
 ghost use Rattle.std.specs.Prelude.{◌≡◌};
-ghost use Rattle.tt_print.specs.Pieces.{place_text};
 ghost use Rattle.tt_print.specs.Text.{
   after_variables,
-  before_child,
   before_variable,
-  closing,
+  closing_words,
   list_style,
-  opening_text,
+  opening_words,
   separator,
+  words_before,
 };
 
-use tt_kinds::FnSigKind;
+use tt_kinds::{BoundConstness, FnSigKind};
 
 /// The style in which the children of a term, or the items of a list, are written.
 #[derive(Clone, Copy)]
@@ -49,10 +48,19 @@ pub(crate) enum Style {
     Equated,
     /// `NAME(A, Subtype, B)`.
     Subtyped,
+    /// A bound by the trait of this number, around the list of the trait's arguments. A bound on the effects of the
+    /// trait's items also has the constants that they have to be usable in.
+    Bound(Option<BoundConstness>, u32),
+    /// `A: 'r`.
+    Outlives,
+    /// A name, its arguments and their value: `NAME<A> == T`.
+    Equality,
     /// A list by itself: `[A, B]`.
     Listed,
     /// The list of generic arguments: `<A, B>`.
     Arguments,
+    /// The list of a bound's arguments, of which the first is the self type: `A: NAME<B, C>`.
+    SelfFirst(Option<BoundConstness>, u32),
     /// The list of a tuple's types: `(A, B)`.
     Elements,
     /// The list of a signature's types: `(A, B) -> C`.
@@ -70,8 +78,8 @@ pub(crate) enum Style {
 /// A place in the text of a term's children.
 #[derive(Clone, Copy)]
 pub(crate) enum Place {
-    /// In front of a child, which may be the first and the last.
-    Before { first: bool, last: bool },
+    /// In front of a child, after this number of children. The child may be the last.
+    Before { count: usize, last: bool },
     /// After the last child, with the number of children.
     After(usize),
 }
@@ -82,7 +90,8 @@ impl Style {
         ensures { result ≡ list_style self }
     {
         match self {
-            Style::Generic | Style::Braced | Style::Record => Style::Arguments,
+            Style::Generic | Style::Braced | Style::Record | Style::Equality => Style::Arguments,
+            Style::Bound(constness, number) => Style::SelfFirst(constness, number),
             Style::Tuple => Style::Elements,
             Style::Signature(kind) => {
                 if kind.c_variadic() {
@@ -100,7 +109,7 @@ impl Style {
 
     // Returns the text in front of a first child.
     fn opening(self, last: bool) -> &'static str
-        ensures { result.now ≡ opening_text self last }
+        ensures { result.now ≡ opening_words self last }
     {
         match (self, last) {
             (Style::Listed, _) => "[",
@@ -113,7 +122,7 @@ impl Style {
         }
     }
 
-    // Returns the text in front of a later child.
+    // Returns the words in front of a later child, after a name if one comes here.
     fn separator(self, last: bool) -> &'static str
         ensures { result.now ≡ separator self last }
     {
@@ -123,11 +132,18 @@ impl Style {
             (Style::Square, _) => "; ",
             (Style::Restricted, _) => " is ",
             (Style::Generic, _) => " = ",
+            (Style::Equality, _) => " == ",
+            (Style::Outlives, _) => ": ",
             (Style::Range, _) => "..=",
             (Style::Equated, _) => ", Equate, ",
             (Style::Subtyped, _) => ", Subtype, ",
             (
-                Style::Record | Style::Listed | Style::Arguments | Style::Elements | Style::Values,
+                Style::Record
+                | Style::Listed
+                | Style::Arguments
+                | Style::SelfFirst(_, _)
+                | Style::Elements
+                | Style::Values,
                 _,
             ) => ", ",
             (Style::Inputs, true) => ") -> ",
@@ -139,20 +155,20 @@ impl Style {
         }
     }
 
-    // Returns the text in front of a child.
-    fn before_child(self, first: bool, last: bool) -> &'static str
-        ensures { result.now ≡ before_child self first last }
+    /// Returns the words in front of the child after `count` others, and after the name of a trait if it comes here.
+    pub(crate) fn before_child(self, count: usize, last: bool) -> &'static str
+        ensures { result.now ≡ words_before self count last }
     {
-        if first {
-            self.opening(last)
-        } else {
-            self.separator(last)
+        match (self, count) {
+            (Style::SelfFirst(_, _), 1) => "<",
+            (_, 0) => self.opening(last),
+            _ => self.separator(last),
         }
     }
 
-    // Returns the text after `count` children.
-    fn closing(self, count: usize) -> &'static str
-        ensures { result.now ≡ closing self count }
+    /// Returns the words after `count` children, and after the name of a trait if it comes here.
+    pub(crate) fn closing(self, count: usize) -> &'static str
+        ensures { result.now ≡ closing_words self count }
     {
         match (self, count) {
             (Style::Square, _) => "]",
@@ -164,23 +180,14 @@ impl Style {
             (Style::Listed, 0) => "[]",
             (Style::Listed, _) => "]",
             (Style::Arguments, 0) => "",
-            (Style::Arguments, _) => ">",
+            (Style::SelfFirst(_, _), 0 | 1) => "",
+            (Style::Arguments | Style::SelfFirst(_, _), _) => ">",
             (Style::Elements | Style::Values, 0) => "()",
             (Style::Elements, 1) => ",)",
             (Style::Elements | Style::Values, _) => ")",
             (Style::Bounds, 0) => "",
             (Style::Bounds, _) => " + ",
             _ => "",
-        }
-    }
-
-    /// Returns the text at this place.
-    pub(crate) fn text_at(self, place: Place) -> &'static str
-        ensures { result.now ≡ place_text self place }
-    {
-        match place {
-            Place::Before { first, last } => self.before_child(first, last),
-            Place::After(count) => self.closing(count),
         }
     }
 }

@@ -1,7 +1,7 @@
 //! The pieces of a text that are still to be written. They are on the heap, so that a term may be as deep as memory
 //! allows.
 
-ghost use Rattle.std.specs.Prelude.{◌≡◌, ◌≤◌, suc, true, ◌++◌, List as Items, OnOk};
+ghost use Rattle.std.specs.Prelude.{◌≡◌, ◌≤◌, suc, ◌++◌, List as Items, OnOk};
 ghost use Rattle.tt_kinds.specs.Kinds.{child_shapes, items_label, list_shape, parts_shapes};
 ghost use Rattle.tt_kinds.specs.Label.{Name};
 ghost use Rattle.tt_kinds.specs.Parts.{list_sort};
@@ -49,7 +49,7 @@ fn push_end(pieces: &mut Pieces, style: Style, count: usize) -> Result<(), Alloc
         rows
         pieces.old.items
         pieces.new.items
-        (closing style count)
+        (closing (names rows) style count)
         1) }
 {
     pieces.reserve(1)?;
@@ -61,12 +61,12 @@ fn push_end(pieces: &mut Pieces, style: Style, count: usize) -> Result<(), Alloc
     Ok(())
 }
 
-// Adds a child, which may be the first and the last, with the text in front of it.
+// Adds the child after `count` others, which may be the last, with the text in front of it.
 fn push_child(
     pieces: &mut Pieces,
     style: Style,
     child: &Child,
-    first: bool,
+    count: usize,
     last: bool,
 ) -> Result<(), AllocError>
     ensures { (rows : Items Row) → AreParts (size rows) (child_shapes child.now)
@@ -76,7 +76,7 @@ fn push_child(
         pieces.new.items
         (child_text
         (names rows)
-        (before_child style first last)
+        (before_child (names rows) style count last)
         style
         (fill_all (meaning rows) (child_shapes child.now)))
         (forest_pieces (fill_all (meaning rows) (child_shapes child.now)))) }
@@ -87,7 +87,7 @@ fn push_child(
     pieces.reserve(1)?;
     pieces.push_reserved(Piece {
         style,
-        place: Place::Before { first, last },
+        place: Place::Before { count, last },
         child: *child,
     });
     Ok(())
@@ -100,15 +100,15 @@ pub(crate) fn push_parts(pieces: &mut Pieces, style: Style, parts: &Parts) -> Re
         rows
         pieces.old.items
         pieces.new.items
-        (texts (names rows) style true (fill_all (meaning rows) (parts_shapes parts.now))
-        ++ closing style (count_trees (fill_all (meaning rows) (parts_shapes parts.now))))
+        (texts (names rows) style 0 (fill_all (meaning rows) (parts_shapes parts.now))
+        ++ closing (names rows) style (count_trees (fill_all (meaning rows) (parts_shapes parts.now))))
         (suc (forest_pieces (fill_all (meaning rows) (parts_shapes parts.now))))) }
 {
     push_end(pieces, style, part_count(parts))?;
-    let no_first = is_absent(&parts.first);
-    push_child(pieces, style, &parts.second, no_first, true)?;
+    let before = child_count(&parts.first);
+    push_child(pieces, style, &parts.second, before, true)?;
     let no_second = is_absent(&parts.second);
-    push_child(pieces, style, &parts.first, true, no_second)
+    push_child(pieces, style, &parts.first, 0, no_second)
 }
 
 /// Adds the items of a stored list, in a term of this style, and the text after them. What is written first is added
@@ -134,7 +134,7 @@ pub(crate) fn push_list(
     'items: while index > 0 {
         index -= 1;
         let child = cx.list_child(list, index);
-        push_child(pieces, items, &child, index == 0, index + 1 == count)?;
+        push_child(pieces, items, &child, index, index + 1 == count)?;
     }
     Ok(())
 }

@@ -22,7 +22,6 @@ ghost use Rattle.tt_print.specs.Text.{
   bound_head,
   called,
   convention,
-  effect_head,
   infer_head,
   item,
   numbered,
@@ -50,9 +49,9 @@ use super::layout::Style;
 use super::words::{abi_words, float_name, int_name, safety_word, uint_name};
 use tt_index::Mutability;
 use tt_kinds::{
-    AliasRelationDirection, BoundConstness, BoundRegionKind, BoundTyKind, BoundVarIndexKind,
-    BoundVariableKind, ClauseKind, ConstKind, DefId, ExistentialPredicate, FnSigKind, InferConst,
-    InferTy, Kind, PatternKind, PredicateKind, RegionKind, Symbol, TyKind, ValTreeKind, ValueConst,
+    AliasRelationDirection, BoundRegionKind, BoundTyKind, BoundVarIndexKind, BoundVariableKind,
+    ClauseKind, ConstKind, DefId, ExistentialPredicate, FnSigKind, InferConst, InferTy, Kind,
+    PatternKind, PredicateKind, RegionKind, Symbol, TyKind, ValTreeKind, ValueConst,
 };
 
 /// The part of a term's data that is written.
@@ -336,8 +335,8 @@ fn const_spelling(kind: &ConstKind) -> Spelling
     }
 }
 
-// Returns how a pattern is spelled.
-fn pattern_spelling(kind: &PatternKind) -> Spelling
+/// Returns how a pattern is spelled.
+pub(crate) fn pattern_spelling(kind: &PatternKind) -> Spelling
     ensures head { head_of result ≡ pattern_head (pattern_form kind.now).label }
     ensures style { result.style ≡ pattern_style (pattern_form kind.now).label }
 {
@@ -348,42 +347,26 @@ fn pattern_spelling(kind: &PatternKind) -> Spelling
     }
 }
 
-// Returns how a predicate on the effects of a trait's items is spelled.
-fn effect_spelling(constness: BoundConstness, number: u32) -> Spelling
-    ensures head { head_of result ≡ effect_head constness number }
-    ensures style { result.style ≡ Style.Record }
-{
-    match constness {
-        BoundConstness::Const => declared("HostEffectPredicate(const ", number, Style::Record),
-        BoundConstness::Maybe => declared("HostEffectPredicate([const] ", number, Style::Record),
-    }
-}
-
 /// Returns how a clause is spelled.
 pub(crate) fn clause_spelling(kind: &ClauseKind) -> Spelling
     ensures head { head_of result ≡ record_head Style.Joined (clause_form kind.now).label }
     ensures style { result.style ≡ record_style Style.Joined (clause_form kind.now).label }
 {
     match kind {
-        ClauseKind::Trait(p) => {
-            declared(
-                "TraitPredicate(",
-                p.trait_ref.def_id.number(),
-                Style::Record,
-            )
-        }
+        ClauseKind::Trait(p) => worded("", Style::Bound(None, p.trait_ref.def_id.number())),
         ClauseKind::RegionOutlives(_) | ClauseKind::TypeOutlives(_) => {
-            worded("OutlivesPredicate(", Style::Record)
+            worded("", Style::Outlives)
         }
-        ClauseKind::Projection(p) => declared(
-            "ProjectionPredicate(",
-            p.projection_term.def_id.number(),
-            Style::Record,
-        ),
+        ClauseKind::Projection(p) => {
+            declared("", p.projection_term.def_id.number(), Style::Equality)
+        }
         ClauseKind::ConstArgHasType(_, _) => worded("ConstArgHasType(", Style::Record),
         ClauseKind::WellFormed(_) => worded("WellFormed(", Style::Record),
         ClauseKind::ConstEvaluatable(_) => worded("ConstEvaluatable(", Style::Record),
-        ClauseKind::HostEffect(p) => effect_spelling(p.constness, p.trait_ref.def_id.number()),
+        ClauseKind::HostEffect(p) => worded(
+            "",
+            Style::Bound(Some(p.constness), p.trait_ref.def_id.number()),
+        ),
         ClauseKind::UnstableFeature(name) => {
             followed("UnstableFeature(", Subject::Called(*name), Style::Record)
         }

@@ -11,15 +11,17 @@ ghost use Rattle.tt_print.specs.Text.{Writes, names, text};
 
 use super::layout::Style;
 use super::spelling::{
-    clause_spelling, declared, existential_spelling, fn_spelling, predicate_spelling, worded,
+    clause_spelling, declared, existential_spelling, fn_spelling, pattern_spelling,
+    predicate_spelling, worded,
 };
-use super::{IrPrint, print_child, print_record, write_variables};
+use super::{IrPrint, print_child, print_kind, print_record, write_variables};
 use std::alloc::AllocError;
 use tt_interner::Interner;
 use tt_kinds::{
-    AliasTerm, AliasTy, Binder, BoundExistentialPredicates, Child, ClauseKind, Clauses, Consts,
-    ExistentialPredicate, FnSig, GenericArgs, List, ParamEnv, Parts, PatList, PredicateKind,
-    TraitRef, Tys,
+    AliasTerm, AliasTy, Binder, BoundExistentialPredicates, Child, ClauseKind, Clauses, ConstKind,
+    Consts, ExistentialPredicate, FnSig, GenericArgs, HostEffectPredicate, Kind, List, Node,
+    OutlivesPredicate, ParamEnv, Parts, PatList, PatternKind, PredicateKind, ProjectionPredicate,
+    Region, TraitPredicate, TraitRef, Ty, TyKind, Tys,
 };
 
 // Appends the name of an item and its arguments, or nothing if memory for them is refused.
@@ -192,6 +194,65 @@ impl IrPrint for ExistentialPredicate {
     #[tactic(auto, unfolding(tt_kinds::specs::Shape::fill))]
     fn print(&self, cx: &Interner, out: &mut String) -> Result<(), AllocError> {
         let spelling = existential_spelling(self);
+        print_record(cx, out, &spelling, &self.parts())
+    }
+}
+
+impl IrPrint for TraitPredicate {
+    fn print(&self, cx: &Interner, out: &mut String) -> Result<(), AllocError> {
+        ClauseKind::Trait(*self).print(cx, out)
+    }
+}
+
+impl IrPrint for HostEffectPredicate {
+    fn print(&self, cx: &Interner, out: &mut String) -> Result<(), AllocError> {
+        ClauseKind::HostEffect(*self).print(cx, out)
+    }
+}
+
+impl IrPrint for ProjectionPredicate {
+    fn print(&self, cx: &Interner, out: &mut String) -> Result<(), AllocError> {
+        ClauseKind::Projection(*self).print(cx, out)
+    }
+}
+
+impl IrPrint for OutlivesPredicate<Ty> {
+    #[tactic(auto, unfolding(tt_kinds::specs::Shape::fill, tt_kinds::specs::Shape::fill_all))]
+    fn print(&self, cx: &Interner, out: &mut String) -> Result<(), AllocError> {
+        let spelling = worded("", Style::Outlives);
+        let parts = Parts::two(Child::Node(Node::Ty(self.0)), Child::Region(self.1));
+        print_record(cx, out, &spelling, &parts)
+    }
+}
+
+impl IrPrint for OutlivesPredicate<Region> {
+    #[tactic(auto, unfolding(tt_kinds::specs::Shape::fill, tt_kinds::specs::Shape::fill_all))]
+    fn print(&self, cx: &Interner, out: &mut String) -> Result<(), AllocError> {
+        let spelling = worded("", Style::Outlives);
+        let parts = Parts::two(Child::Region(self.0), Child::Region(self.1));
+        print_record(cx, out, &spelling, &parts)
+    }
+}
+
+/// A type's kind is written as the stored type is.
+impl IrPrint for TyKind {
+    fn print(&self, cx: &Interner, out: &mut String) -> Result<(), AllocError> {
+        print_kind(cx, out, &Kind::Ty(*self))
+    }
+}
+
+/// A constant's kind is written as the stored constant is.
+impl IrPrint for ConstKind {
+    fn print(&self, cx: &Interner, out: &mut String) -> Result<(), AllocError> {
+        print_kind(cx, out, &Kind::Const(*self))
+    }
+}
+
+/// A pattern's kind is written as the stored pattern is.
+impl IrPrint for PatternKind {
+    #[tactic(auto, unfolding(tt_kinds::specs::Shape::fill))]
+    fn print(&self, cx: &Interner, out: &mut String) -> Result<(), AllocError> {
+        let spelling = pattern_spelling(self);
         print_record(cx, out, &spelling, &self.parts())
     }
 }

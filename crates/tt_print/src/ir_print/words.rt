@@ -1,9 +1,10 @@
 //! Words: the names of numeric types, and the words of a function besides its types.
 
 ghost use Rattle.std.specs.Prelude.{◌≡◌};
-ghost use Rattle.tt_print.specs.Text.{abi_words, float_name, int_name, safety_word, uint_name};
+ghost use Rattle.tt_print.specs.Text.{abi_words, bound_words, float_name, int_name, safety_word, uint_name};
 
 use tt_index::{ExternAbi, FloatTy, IntTy, Safety, UintTy};
+use tt_kinds::BoundConstness;
 
 /// Returns the name of a signed integer type.
 pub(crate) fn int_name(ty: IntTy) -> &'static str
@@ -67,5 +68,16 @@ pub(crate) fn abi_words(abi: ExternAbi) -> &'static str
         ExternAbi::System { unwind: true } => "extern \"system-unwind\" ",
         ExternAbi::RustCall => "extern \"rust-call\" ",
         ExternAbi::Unadjusted => "extern \"unadjusted\" ",
+    }
+}
+
+/// Returns the words between a self type and the name of a trait, of a bound on the effects of the trait's items too.
+pub(crate) fn bound_words(constness: Option<BoundConstness>) -> &'static str
+    ensures { result.now ≡ bound_words constness }
+{
+    match constness {
+        None => ": ",
+        Some(BoundConstness::Const) => ": const ",
+        Some(BoundConstness::Maybe) => ": [const] ",
     }
 }

@@ -7,25 +7,25 @@ pub returns-in-Absent : goal.returns-in-Absent
 unfolding fill_all
 returns-in-Absent c =
     let rows = c.args.cx.now.rows in
-    let written = rw c.text_at.ensures at c.in_ok-write_text.ensures in
+    let written = c.in_ok-write_place.ensures in
     rw c.in-Absent.is (opens-then rows tt (Ok tt) _ _ _ _ _ _ [] 0 written (opens-added rows (Ok tt) _ _ _ _ _ (adds-nothing rows _)))
 
 pub returns-in-Region : goal.returns-in-Region
 unfolding fill_all
 returns-in-Region c =
     let rows = c.args.cx.now.rows in
-    let written = rw c.text_at.ensures at c.in_ok-write_text.ensures in
+    let written = c.in_ok-write_place.ensures in
     rw c.in-Region.is
     (opens-as rows _ _ _ _ _ _ _ 0 _ refl (omega arith) (opens-then rows tt _ _ _ _ _ _ _ _ _ written (opens-written rows _ _ _ _ _ (c.write_region.ensures c.args.piece.now.style))))
 
 pub returns-in-Node : goal.returns-in-Node
 unfolding fill_all
 returns-in-Node c =
-    let written = rw c.text_at.ensures at c.in_ok-write_text.ensures in
+    let written = c.in_ok-write_place.ensures in
     rw c.in-Node.is (opens-then c.args.cx.now.rows tt _ _ _ _ _ _ _ _ _ written c.write_node.ensures)
 
 pub returns-in-List : goal.returns-in-List
 unfolding fill_all
 returns-in-List c =
-    let written = rw c.text_at.ensures at c.in_ok-write_text.ensures in
+    let written = c.in_ok-write_place.ensures in
     rw c.in-List.is (opens-then c.args.cx.now.rows tt _ _ _ _ _ _ _ _ _ written (opens-added c.args.cx.now.rows _ _ _ _ _ _ c.push_list.ensures))

@@ -9,5 +9,5 @@ returns-then-is_absent c rows h =
 
 pub returns : goal.returns
 returns c rows h =
-    adds-child rows _ _ _ c.args.style c.args.child.now c.args.first c.args.last (sym (c.is_absent.ensures (meaning rows)) ∙ c.if-is_absent.false) c.reserve.ensures.items
+    adds-child rows _ _ _ c.args.style c.args.child.now c.args.count c.args.last (sym (c.is_absent.ensures (meaning rows)) ∙ c.if-is_absent.false) c.reserve.ensures.items
     c.push_reserved.ensures.items h

@@ -1,4 +1,4 @@
-use Rattle.std.proofs.Common.{◌≤◌, ◌==◌, ◌++◌, suc, length, drop}
+use Rattle.std.proofs.Common.{◌≤◌, ◌++◌, suc, length, drop}
 use Rattle.tt_kinds.specs.Shape.{fill_all}
 use Rattle.tt_kinds.specs.Kinds.{children_shapes}
 use Rattle.tt_interner.specs.Rows.{meaning}
@@ -11,8 +11,8 @@ abbrev pub invariant-items : goal.invariant-items
 invariant-items l = record {
   within : l.index ≤ length (children_at l.cx.rows l.list);
   adds : AddsPieces l.cx.rows l.fn.pieces.items l.pieces.items
-      (texts (names l.cx.rows) l.items (l.index == 0) (fill_all (meaning l.cx.rows) (children_shapes (drop l.index (children_at l.cx.rows l.list))))
-      ++ closing l.items l.count)
+      (texts (names l.cx.rows) l.items l.index (fill_all (meaning l.cx.rows) (children_shapes (drop l.index (children_at l.cx.rows l.list))))
+      ++ closing (names l.cx.rows) l.items l.count)
       (suc (forest_pieces (fill_all (meaning l.cx.rows) (children_shapes (drop l.index (children_at l.cx.rows l.list))))));
 }
 
