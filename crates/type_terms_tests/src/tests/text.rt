@@ -6,12 +6,14 @@ use test_terms::{
     pattern, predicate, ref_ty, tuple, two_existentials, two_patterns, ty, tys, u32_ty,
 };
 use type_terms::{
-    AdtId, AliasTerm, AliasTy, AliasTyKind, Binder, BoundRegionKind, BoundTyKind, BoundVarKinds,
-    BoundVariableKind, ClauseKind, Const, ConstKind, ExistentialPredicate, ExistentialProjection,
-    ExistentialTraitRef, ExternAbi, FnHeader, FnSig, FnSigKind, FnSigTys, GenericArg, GenericArgs,
-    Interner, IrPrint, OutlivesPredicate, Owned, ParamEnv, PatternKind, PredicateKind, Refusal,
-    Region, RegionKind, Safety, ScalarInt, SubtypePredicate, Term, TraitAssocTyId, TraitId,
-    TraitPredicate, TraitRef, Ty, TyKind, UintTy, ValTree, ValTreeKind, ValueConst,
+    AdtId, AliasTerm, AliasTy, AliasTyKind, Binder, BoundConstness, BoundRegionKind, BoundTyKind,
+    BoundVarKinds, BoundVariableKind, ClauseKind, Const, ConstKind, ExistentialPredicate,
+    ExistentialProjection, ExistentialTraitRef, ExternAbi, FnHeader, FnSig, FnSigKind, FnSigTys,
+    GenericArg, GenericArgs, HostEffectPredicate, InferTy, InternedKind, Interner, IrPrint,
+    Mutability, OutlivesPredicate, Owned, ParamEnv, PatternKind, PredicateKind,
+    ProjectionPredicate, Refusal, Region, RegionKind, Safety, ScalarInt, SubtypePredicate, Term,
+    TraitAssocTyId, TraitId, TraitPredicate, TraitRef, Ty, TyKind, TyVid, UintTy, ValTree,
+    ValTreeKind, ValueConst,
 };
 
 // Returns whether the value's text is this one, after what was written before and by itself.
@@ -114,10 +116,10 @@ fn predicates_hold(cx: &mut Interner) -> Result<bool, Refusal> {
     let auto_trait = ExistentialPredicate::AutoTrait(of_trait);
     let bound = existential(cx, auto_trait, BoundVarKinds::default())?;
     Ok(
-        reads(cx, &of_clause, "OutlivesPredicate(T, 'static)")?
-            && reads(cx, &clause, "OutlivesPredicate(T, 'static)")?
+        reads(cx, &of_clause, "T: 'static")?
+            && reads(cx, &clause, "T: 'static")?
             && reads(cx, &bound, "Iterator")?
-            && reads(cx, &outlives, "OutlivesPredicate(T, 'static)")?
+            && reads(cx, &outlives, "T: 'static")?
             && reads(
                 cx,
                 &subtype,
@@ -201,22 +203,99 @@ fn records_hold(cx: &mut Interner) -> Result<bool, Refusal> {
                 &Binder::bind_with_vars(trait_ref, vars),
                 "for<'^0, '^1 'b, '^2 U, '^3 '{env}, ^4, ^5 U, ^6c> Iterator<T>",
             )?
-            && reads(
-                cx,
-                &env,
-                "ParamEnv([TraitPredicate(Iterator<T>), TraitPredicate(Iterator<T>)])",
-            )?
-            && reads(
-                cx,
-                &env.caller_bounds,
-                "[TraitPredicate(Iterator<T>), TraitPredicate(Iterator<T>)]",
-            )?
+            && reads(cx, &env, "ParamEnv([T: Iterator, T: Iterator])")?
+            && reads(cx, &env.caller_bounds, "[T: Iterator, T: Iterator]")?
             && reads(cx, &unknown, "#12<T>")?,
     )
 }
 
+// Predicates of clauses by themselves.
+fn bounds_hold(cx: &mut Interner) -> Result<bool, Refusal> {
+    let (def_id, item) = iterator(cx)?;
+    let param = param_ty(cx, 0)?;
+    let b = u32_ty(cx)?;
+    let fixed = Region::new(RegionKind::ReStatic)?;
+    let constant = number(cx, 4)?;
+    let one = args(cx, &[GenericArg::from(param)])?;
+    let three = args(
+        cx,
+        &[
+            GenericArg::from(param),
+            GenericArg::from(fixed),
+            GenericArg::from(constant),
+        ],
+    )?;
+    let none = args(cx, &[])?;
+    let trait_ref = TraitRef {
+        def_id,
+        args: three,
+    };
+    let constness = BoundConstness::Maybe;
+    let projection = ProjectionPredicate {
+        projection_term: AliasTerm {
+            def_id: item.into(),
+            args: one,
+        },
+        term: Term::from(b),
+    };
+    Ok(
+        reads(
+            cx,
+            &TraitPredicate { trait_ref },
+            "T: Iterator<'static, 4:8_usize>",
+        )? && reads(
+            cx,
+            &TraitPredicate {
+                trait_ref: TraitRef { def_id, args: one },
+            },
+            "T: Iterator",
+        )? && reads(
+            cx,
+            &TraitPredicate {
+                trait_ref: TraitRef { def_id, args: none },
+            },
+            ": Iterator",
+        )? && reads(
+            cx,
+            &HostEffectPredicate {
+                trait_ref,
+                constness,
+            },
+            "T: [const] Iterator<'static, 4:8_usize>",
+        )? && reads(cx, &projection, "Iterator::Item<T> == u32")?
+            && reads(cx, &OutlivesPredicate(param, fixed), "T: 'static")?
+            && reads(cx, &OutlivesPredicate(fixed, fixed), "'static: 'static")?,
+    )
+}
+
+// Kinds by themselves.
+fn kinds_hold(cx: &mut Interner) -> Result<bool, Refusal> {
+    let param = param_ty(cx, 0)?;
+    let four = number(cx, 4)?;
+    let pointer = TyKind::RawPtr(param, Mutability::Mut);
+    let infer = TyKind::Infer(InferTy::TyVar(TyVid::from_u32(0)));
+    let range = PatternKind::Range {
+        start: four,
+        end: four,
+    };
+    Ok(
+        reads(cx, param.kind(cx), "T")?
+            && reads(cx, &pointer, "*mut T")?
+            && reads(cx, &infer, "?0t")?
+            && reads(cx, four.kind(cx), "4:8_usize")?
+            && reads(cx, &range, "4:8_usize..=4:8_usize")?,
+    )
+}
+
 fn texts_hold(cx: &mut Interner) -> Result<bool, Refusal> {
-    Ok(terms_hold(cx)? && predicates_hold(cx)? && lists_hold(cx)? && records_hold(cx)?)
+    Ok(
+        terms_hold(cx)?
+            && predicates_hold(cx)?
+            && bounds_hold(cx)?
+            && kinds_hold(cx)?
+            && lists_hold(cx)?
+            && records_hold(cx)?,
+    )
 }
 
 #[test]
