@@ -1,5 +1,6 @@
--- The folds of values without terms: what is data alone is walked without a hook, and stays.
-use Rattle.std.proofs.Common.{List, Ok}
+-- The folds of values without terms: what is data alone is walked without a hook, and stays. And the fold of a value by
+-- the fold of another one of the same shape.
+use Rattle.std.proofs.Common.{◌≡◌, List, Ok, Err}
 use Rattle.tt_kinds.specs.Label.{record_label}
 use Rattle.tt_kinds.specs.Shape.{Shape, Shapes, node, none, also, fill, fill_all}
 use Rattle.tt_interner.specs.Rows.{Row}
@@ -28,3 +29,16 @@ module _ {M E S T : Type 0} {owned : List Row → S → Type 0} {means : List Ro
   pub data_folds : {terms : Terms} {s : S} (x : T) → IsData (of x) → IsPartOf terms.rows (of x) → owned terms.rows s
       → Folds owned means (IsPartBy of) (tree_by of) (Walks H) (Fails H errors) terms s x (Ok x) terms s
   data_folds {terms} x is part o = record { extends = Extends-refl terms; is_owned = o; outcome = (part, data_walks _ terms.rows (of x) is) }
+
+module _ {M E S T A : Type 0} {owned : List Row → S → Type 0} {means : List Row → S → M} {H : Hooks (Standing M) E} {errors : Errors E} (of : T → Shape) (a : A → Shape) where
+  -- the fold of a value fails if the fold of another one of its shape fails
+  pub alike_fails : {terms terms1 : Terms} {s s1 : S} {e : E} (x : T) (u : A) → of x ≡ a u
+      → Folds owned means (IsPartBy a) (tree_by a) (Walks H) (Fails H errors) terms s u (Err e) terms1 s1
+      → Folds owned means (IsPartBy of) (tree_by of) (Walks H) (Fails H errors) terms s x (Err e) terms1 s1
+  alike_fails x u at_x d = record { extends = d.extends; is_owned = d.is_owned; outcome = rw at_x d.outcome }
+
+  -- a value is folded to one whose shape another one of its own shape is folded to
+  pub alike_folds : {terms terms1 : Terms} {s s1 : S} (x y : T) (u v : A) → of x ≡ a u → of y ≡ a v
+      → Folds owned means (IsPartBy a) (tree_by a) (Walks H) (Fails H errors) terms s u (Ok v) terms1 s1
+      → Folds owned means (IsPartBy of) (tree_by of) (Walks H) (Fails H errors) terms s x (Ok y) terms1 s1
+  alike_folds x y u v at_x at_y d = record { extends = d.extends; is_owned = d.is_owned; outcome = rw (at_x, at_y) d.outcome }

@@ -92,18 +92,29 @@ impl TypeFoldable for ValueConst {
     }
 }
 
+impl TypeFoldable for ValTreeKind {
+    fn fold_core<M, F: Core<M>>(
+        self,
+        cx: &mut Interner,
+        folder: &mut F,
+    ) -> Result<ValTreeKind, F::Error> {
+        match self {
+            ValTreeKind::Leaf(leaf) => Ok(ValTreeKind::Leaf(leaf)),
+            ValTreeKind::Branch(values) => {
+                let new_values = values.fold_core::<M, F>(cx, folder)?;
+                Ok(ValTreeKind::Branch(new_values))
+            }
+        }
+    }
+}
+
 impl TypeFoldable for ValTree {
     fn fold_core<M, F: Core<M>>(
         self,
         cx: &mut Interner,
         folder: &mut F,
     ) -> Result<ValTree, F::Error> {
-        match self.kind() {
-            ValTreeKind::Leaf(leaf) => Ok(ValTree::from(ValTreeKind::Leaf(leaf))),
-            ValTreeKind::Branch(values) => {
-                let new_values = values.fold_core::<M, F>(cx, folder)?;
-                Ok(ValTree::from(ValTreeKind::Branch(new_values)))
-            }
-        }
+        let kind = self.kind().fold_core::<M, F>(cx, folder)?;
+        Ok(ValTree::from(kind))
     }
 }

@@ -1,9 +1,8 @@
-//! The folds of values without terms: numbers, tags, indices and placeholders by themselves. They call no hook.
+//! The folds of values without terms: numbers, tags, names, ids, indices, parameters and variables by themselves. They
+//! call no hook.
 
-ghost use Rattle.std.specs.Prelude.{◌≡◌};
+ghost use Rattle.tt_visit.proofs.DataSteps.{index_data};
 ghost use Rattle.tt_visit.specs.Data.{IsData};
-ghost use Rattle.tt_fold.specs.Steps.{Folds, IsPartBy, errors_of, tree_by};
-ghost use Rattle.tt_fold.specs.Walk.{Fails, Walks};
 
 use crate::core_folder::Core;
 use crate::foldable::TypeFoldable;
@@ -12,203 +11,185 @@ use tt_index::{
 };
 use tt_interner::Interner;
 use tt_kinds::{
-    AliasRelationDirection, BoundVarIndexKind, PlaceholderConst, PlaceholderRegion, PlaceholderType,
+    AliasRelationDirection, AliasTyKind, AnonConstKind, BoundConst, BoundConstness, BoundRegion,
+    BoundRegionKind, BoundTy, BoundTyKind, BoundVarIndexKind, BoundVarKinds, BoundVariableKind,
+    DefId, EarlyParamRegion, FloatVarValue, FnHeader, FnSigKind, Id, InferConst, InferTy,
+    IntVarValue, LateParamRegion, ParamConst, ParamTy, ScalarInt, Symbol,
 };
 use tt_visit::TypeVisitable;
 
-// Returns the value: there is nothing to fold in it.
-fn fold_data<T: TypeVisitable + Drop, M, F: Core<M>>(
-    value: T,
-    _cx: &mut Interner,
-    _folder: &mut F,
-) -> Result<T, F::Error>
-    requires data { IsData (T.shape value) }
-    requires state { F.owned _cx.old.rows _folder.old }
-    requires value { IsPartBy T.shape _cx.old.rows value }
-    ensures terms { _cx.new ≡ _cx.old }
-    ensures folds { Folds F.owned F.meaning (IsPartBy T.shape) (tree_by T.shape)
-        (Walks F.hooks) (Fails F.hooks (errors_of F.Error.from_gives _cx.new))
-        _cx.old _folder.old value result _cx.new _folder.new }
-{
-    Ok(value)
+/// A value without terms, such as a number or a tag. Each fold returns the value as it is.
+pub trait FoldsToItself: TypeVisitable + Drop {
+    // The value's shape is records all the way down.
+    ghost is_data: { (value : Self) → IsData (Self.shape value) };
 }
 
-impl TypeFoldable for () {
-    fn fold_core<M, F: Core<M>>(self, cx: &mut Interner, folder: &mut F) -> Result<(), F::Error> {
-        fold_data::<Self, M, F>(self, cx, folder)
+impl<T: FoldsToItself> TypeFoldable for T {
+    fn fold_core<M, F: Core<M>>(self, _cx: &mut Interner, _folder: &mut F) -> Result<T, F::Error> {
+        Ok(self)
     }
 }
 
-impl TypeFoldable for bool {
-    fn fold_core<M, F: Core<M>>(self, cx: &mut Interner, folder: &mut F) -> Result<bool, F::Error> {
-        fold_data::<Self, M, F>(self, cx, folder)
-    }
+impl FoldsToItself for () {
+    ghost is_data = { λ value. tt };
 }
 
-impl TypeFoldable for u16 {
-    fn fold_core<M, F: Core<M>>(self, cx: &mut Interner, folder: &mut F) -> Result<u16, F::Error> {
-        fold_data::<Self, M, F>(self, cx, folder)
-    }
+impl FoldsToItself for bool {
+    ghost is_data = { λ value. tt };
 }
 
-impl TypeFoldable for u32 {
-    fn fold_core<M, F: Core<M>>(self, cx: &mut Interner, folder: &mut F) -> Result<u32, F::Error> {
-        fold_data::<Self, M, F>(self, cx, folder)
-    }
+impl FoldsToItself for u16 {
+    ghost is_data = { λ value. tt };
 }
 
-impl TypeFoldable for u64 {
-    fn fold_core<M, F: Core<M>>(self, cx: &mut Interner, folder: &mut F) -> Result<u64, F::Error> {
-        fold_data::<Self, M, F>(self, cx, folder)
-    }
+impl FoldsToItself for u32 {
+    ghost is_data = { λ value. tt };
 }
 
-impl TypeFoldable for usize {
-    fn fold_core<M, F: Core<M>>(
-        self,
-        cx: &mut Interner,
-        folder: &mut F,
-    ) -> Result<usize, F::Error> {
-        fold_data::<Self, M, F>(self, cx, folder)
-    }
+impl FoldsToItself for u64 {
+    ghost is_data = { λ value. tt };
 }
 
-impl<S> TypeFoldable for Index<S> {
-    fn fold_core<M, F: Core<M>>(
-        self,
-        cx: &mut Interner,
-        folder: &mut F,
-    ) -> Result<Index<S>, F::Error> {
-        fold_data::<Self, M, F>(self, cx, folder)
-    }
+impl FoldsToItself for usize {
+    ghost is_data = { λ value. tt };
 }
 
-impl TypeFoldable for BoundVarIndexKind {
-    fn fold_core<M, F: Core<M>>(
-        self,
-        cx: &mut Interner,
-        folder: &mut F,
-    ) -> Result<BoundVarIndexKind, F::Error> {
-        fold_data::<Self, M, F>(self, cx, folder)
-    }
+impl<S> FoldsToItself for Index<S> {
+    ghost is_data = { λ value. tt };
 }
 
-impl TypeFoldable for Mutability {
-    fn fold_core<M, F: Core<M>>(
-        self,
-        cx: &mut Interner,
-        folder: &mut F,
-    ) -> Result<Mutability, F::Error> {
-        fold_data::<Self, M, F>(self, cx, folder)
-    }
+impl FoldsToItself for BoundVarIndexKind {
+    ghost is_data = { index_data };
 }
 
-impl TypeFoldable for Safety {
-    fn fold_core<M, F: Core<M>>(
-        self,
-        cx: &mut Interner,
-        folder: &mut F,
-    ) -> Result<Safety, F::Error> {
-        fold_data::<Self, M, F>(self, cx, folder)
-    }
+impl FoldsToItself for Mutability {
+    ghost is_data = { λ value. tt };
 }
 
-impl TypeFoldable for Variance {
-    fn fold_core<M, F: Core<M>>(
-        self,
-        cx: &mut Interner,
-        folder: &mut F,
-    ) -> Result<Variance, F::Error> {
-        fold_data::<Self, M, F>(self, cx, folder)
-    }
+impl FoldsToItself for Safety {
+    ghost is_data = { λ value. tt };
 }
 
-impl TypeFoldable for ClosureKind {
-    fn fold_core<M, F: Core<M>>(
-        self,
-        cx: &mut Interner,
-        folder: &mut F,
-    ) -> Result<ClosureKind, F::Error> {
-        fold_data::<Self, M, F>(self, cx, folder)
-    }
+impl FoldsToItself for Variance {
+    ghost is_data = { λ value. tt };
 }
 
-impl TypeFoldable for ExternAbi {
-    fn fold_core<M, F: Core<M>>(
-        self,
-        cx: &mut Interner,
-        folder: &mut F,
-    ) -> Result<ExternAbi, F::Error> {
-        fold_data::<Self, M, F>(self, cx, folder)
-    }
+impl FoldsToItself for ClosureKind {
+    ghost is_data = { λ value. tt };
 }
 
-impl TypeFoldable for IntTy {
-    fn fold_core<M, F: Core<M>>(
-        self,
-        cx: &mut Interner,
-        folder: &mut F,
-    ) -> Result<IntTy, F::Error> {
-        fold_data::<Self, M, F>(self, cx, folder)
-    }
+impl FoldsToItself for ExternAbi {
+    ghost is_data = { λ value. tt };
 }
 
-impl TypeFoldable for UintTy {
-    fn fold_core<M, F: Core<M>>(
-        self,
-        cx: &mut Interner,
-        folder: &mut F,
-    ) -> Result<UintTy, F::Error> {
-        fold_data::<Self, M, F>(self, cx, folder)
-    }
+impl FoldsToItself for IntTy {
+    ghost is_data = { λ value. tt };
 }
 
-impl TypeFoldable for FloatTy {
-    fn fold_core<M, F: Core<M>>(
-        self,
-        cx: &mut Interner,
-        folder: &mut F,
-    ) -> Result<FloatTy, F::Error> {
-        fold_data::<Self, M, F>(self, cx, folder)
-    }
+impl FoldsToItself for UintTy {
+    ghost is_data = { λ value. tt };
 }
 
-impl TypeFoldable for AliasRelationDirection {
-    fn fold_core<M, F: Core<M>>(
-        self,
-        cx: &mut Interner,
-        folder: &mut F,
-    ) -> Result<AliasRelationDirection, F::Error> {
-        fold_data::<Self, M, F>(self, cx, folder)
-    }
+impl FoldsToItself for FloatTy {
+    ghost is_data = { λ value. tt };
 }
 
-impl TypeFoldable for PlaceholderRegion {
-    fn fold_core<M, F: Core<M>>(
-        self,
-        cx: &mut Interner,
-        folder: &mut F,
-    ) -> Result<PlaceholderRegion, F::Error> {
-        fold_data::<Self, M, F>(self, cx, folder)
-    }
+impl FoldsToItself for AliasRelationDirection {
+    ghost is_data = { λ value. tt };
 }
 
-impl TypeFoldable for PlaceholderType {
-    fn fold_core<M, F: Core<M>>(
-        self,
-        cx: &mut Interner,
-        folder: &mut F,
-    ) -> Result<PlaceholderType, F::Error> {
-        fold_data::<Self, M, F>(self, cx, folder)
-    }
+impl FoldsToItself for BoundConstness {
+    ghost is_data = { λ value. tt };
 }
 
-impl TypeFoldable for PlaceholderConst {
-    fn fold_core<M, F: Core<M>>(
-        self,
-        cx: &mut Interner,
-        folder: &mut F,
-    ) -> Result<PlaceholderConst, F::Error> {
-        fold_data::<Self, M, F>(self, cx, folder)
-    }
+impl FoldsToItself for AnonConstKind {
+    ghost is_data = { λ value. tt };
+}
+
+impl FoldsToItself for IntVarValue {
+    ghost is_data = { λ value. tt };
+}
+
+impl FoldsToItself for FloatVarValue {
+    ghost is_data = { λ value. tt };
+}
+
+impl FoldsToItself for FnSigKind {
+    ghost is_data = { λ value. tt };
+}
+
+impl FoldsToItself for FnHeader {
+    ghost is_data = { λ value. tt };
+}
+
+impl FoldsToItself for AliasTyKind {
+    ghost is_data = { λ value. tt };
+}
+
+impl FoldsToItself for ScalarInt {
+    ghost is_data = { λ value. tt };
+}
+
+impl FoldsToItself for DefId {
+    ghost is_data = { λ value. tt };
+}
+
+impl<S> FoldsToItself for Id<S> {
+    ghost is_data = { λ value. tt };
+}
+
+impl FoldsToItself for Symbol {
+    ghost is_data = { λ value. tt };
+}
+
+impl FoldsToItself for ParamTy {
+    ghost is_data = { λ value. tt };
+}
+
+impl FoldsToItself for ParamConst {
+    ghost is_data = { λ value. tt };
+}
+
+impl FoldsToItself for EarlyParamRegion {
+    ghost is_data = { λ value. tt };
+}
+
+impl FoldsToItself for LateParamRegion {
+    ghost is_data = { λ value. tt };
+}
+
+impl FoldsToItself for InferTy {
+    ghost is_data = { λ value. tt };
+}
+
+impl FoldsToItself for InferConst {
+    ghost is_data = { λ value. tt };
+}
+
+impl FoldsToItself for BoundRegion {
+    ghost is_data = { λ value. tt };
+}
+
+impl FoldsToItself for BoundTy {
+    ghost is_data = { λ value. tt };
+}
+
+impl FoldsToItself for BoundConst {
+    ghost is_data = { λ value. tt };
+}
+
+impl FoldsToItself for BoundRegionKind {
+    ghost is_data = { λ value. tt };
+}
+
+impl FoldsToItself for BoundTyKind {
+    ghost is_data = { λ value. tt };
+}
+
+impl FoldsToItself for BoundVariableKind {
+    ghost is_data = { λ value. tt };
+}
+
+impl FoldsToItself for BoundVarKinds {
+    ghost is_data = { λ value. tt };
 }

@@ -22,6 +22,7 @@ mod containers;
 pub mod core_folder;
 mod data;
 mod equality;
+mod fields;
 pub mod foldable;
 pub mod folder;
 mod handles;
@@ -40,6 +41,7 @@ pub mod type_replacer;
 mod types_once;
 mod walk;
 
+pub use data::FoldsToItself;
 pub use equality::equal_steps_are_same;
 pub use foldable::{TypeFoldable, TypeSuperFoldable};
 pub use folder::{FallibleTypeFolder, Step, TypeFolder};
