@@ -50,6 +50,7 @@ pub use tt_flags::TypeFlags;
 pub use tt_flags::equal_flags_are_same;
 pub use tt_fold::ClonesTree;
 pub use tt_fold::FallibleTypeFolder;
+pub use tt_fold::FoldsToItself;
 pub use tt_fold::RegionFolder;
 pub use tt_fold::RegionReplacer;
 pub use tt_fold::Replacer;
