@@ -12,5 +12,5 @@ visit_values-requires-clause-values g c =
 pub returns-clause-result : goal.returns-clause-result
 returns-clause-result g c =
     let is = args-tree c.args.cx.now.rows c.are_rows.ensures.are c.args.self.now c.args-2.result c.as_slice-list.result.now c.span-arguments.result.now
-    c.args-2.ensures c.as_slice-list.ensures.row (rw (← c.start.ensures, ← c.len.ensures) c.span-arguments.ensures) in
+    c.args-2.ensures c.as_slice-list.ensures.row (rw (← c.start.ensures, ← c.count.ensures) c.span-arguments.ensures) in
     flow-weaker c.visit_values.result c.visit_values.ensures.result (λ _ h. rw is (node_seen refl h)) (λ b h. rw is (node_broke refl h))
