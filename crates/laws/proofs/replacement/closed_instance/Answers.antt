@@ -39,6 +39,6 @@ closed law (Err e) u rows slice t answered none h = tt
 
 pub returns : goal.returns
 returns c =
-    closed c.replacement_leaves_no_parameter.ensures c.instance.result _ c.args.cx.now.rows _ _ c.instance.ensures.answered
-    (only c.args.cx.now.rows c.args.argument _ (search rules) (none_by_test _ _ c.has_param.ensures c.if-has_param.false))
+    closed c.replacement_leaves_no_parameter.ensures c.instance.result _ c.args.cx.now.rows c.as_slice.result.now (tree_in c.args.cx.now.rows (ty_shape c.args.ty)) c.instance.ensures.answered
+    (only c.args.cx.now.rows c.args.argument c.as_slice.result.now (search rules) (none_by_test _ _ c.has_param.ensures c.if-has_param.false))
     c.instance.ensures.plain

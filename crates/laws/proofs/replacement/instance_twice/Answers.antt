@@ -8,6 +8,9 @@ use Rattle.tt_kinds.specs.Param.{IsAnswered}
 use Rattle.tt_kinds.specs.Reading.{read}
 use Rattle.tt_kinds.specs.Tree.{Depth, Tree}
 use Rattle.tt_kinds.proofs.PutLaws.{IsAnswered-read}
+use Rattle.tt_interner.specs.Arguments.{arguments}
+use Rattle.tt_interner.specs.Owned.{tree_in}
+use Rattle.tt_kinds.specs.Kinds.{ty_shape}
 use Rattle.tt_binder.specs.Instance.{IsPlain}
 use Rattle.tt_binder.specs.ArgumentLaws.{arguments-still}
 use Rattle.laws.proofs.replacement.instance_twice.Goals as goal
@@ -22,6 +25,6 @@ composed law (Err e) u args later later' t s answered same first second = tt
 
 pub returns : goal.returns
 returns c =
-    composed c.replacements_compose.ensures c.instance-2.result _ _ _ _ _ _ c.in_ok-made.ensures.answered
+    composed c.replacements_compose.ensures c.instance-2.result _ (arguments c.args.cx.now.rows c.args.args.now) _ _ (tree_in c.args.cx.now.rows (ty_shape c.args.ty)) _ c.in_ok-made.ensures.answered
     (arguments-still c.args.cx.now.rows c.instance.new.cx.rows c.args.later.now c.args.later.now c.instance.ensures.extends.rows refl (c.are_owned-2.ensures.0 c.if-not-are_owned-2.false))
     c.in_ok-made.ensures.plain c.instance-2.ensures.plain
