@@ -2,7 +2,6 @@
 
 use crate::terms::NOT_OWNED;
 use std::alloc::Global;
-use std::process::Abort;
 use type_terms::{
     EarlyBinder, GenericArg, Instantiate, Interner, Owned, Refusal, TypeFoldable, are_owned,
     shift_vars,
@@ -94,32 +93,4 @@ pub fn answer_within<F: FnOnce(&mut Interner) -> Result<bool, Refusal> + Drop>(
     requires { F.IsAlwaysCallable check }
 {
     answer_on(Interner::with_limit(alloc, limit)?, check)
-}
-
-// Asserts that the outcome is `Ok(true)`.
-pub fn holds(rt: &impl Abort, outcome: Result<bool, Refusal>) {
-    assert_eq!(rt; outcome, Ok(true));
-}
-
-// Asserts that the check returns `Ok(true)` on a new interner. With ample memory there is one.
-pub fn holds_anew<F: FnOnce(&mut Interner) -> Result<bool, Refusal> + Drop>(
-    rt: &impl Abort,
-    alloc: Global,
-    check: F,
-)
-    requires { F.IsAlwaysCallable check }
-{
-    holds(rt, answer_anew(alloc, check));
-}
-
-// Asserts the same on a new interner with at most `limit` rows in a table.
-pub fn holds_within<F: FnOnce(&mut Interner) -> Result<bool, Refusal> + Drop>(
-    rt: &impl Abort,
-    alloc: Global,
-    limit: u32,
-    check: F,
-)
-    requires { F.IsAlwaysCallable check }
-{
-    holds(rt, answer_within(alloc, limit, check));
 }

@@ -7,10 +7,7 @@ pub mod kinds;
 pub mod terms;
 pub mod visitors;
 
-pub use checks::{
-    answer_anew, answer_within, holds, holds_anew, holds_within, instance, is_instance, is_shifted,
-    shifted,
-};
+pub use checks::{answer_anew, answer_within, instance, is_instance, is_shifted, shifted};
 pub use flags::{Flagged, info};
 pub use kinds::{
     clause, clauses, constant, consts, existential, pattern, predicate, two_existentials,

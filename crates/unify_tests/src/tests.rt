@@ -8,9 +8,34 @@ ghost use Rattle.tt_interner.specs.Stored.{Extends};
 ghost use Rattle.unify.specs.Bindings.{IsTable};
 ghost use Rattle.unify.specs.Faults.{IsMismatch};
 
-use test_terms::{NOT_OWNED, holds_anew, holds_within, ty};
+use std::alloc::Global;
+use std::process::Abort;
+use test_terms::{NOT_OWNED, answer_anew, answer_within, ty};
 use type_terms::{InferTy, Interner, Owned, Refusal, Ty, TyKind, TyVid};
 use unify::{Bindings, Fault, unify};
+
+// Asserts that the check returns `Ok(true)` on a new interner.
+fn holds_anew<F: FnOnce(&mut Interner) -> Result<bool, Refusal> + Drop>(
+    rt: &impl Abort,
+    alloc: Global,
+    check: F,
+)
+    requires { F.IsAlwaysCallable check }
+{
+    assert_eq!(rt; answer_anew(alloc, check), Ok(true));
+}
+
+// Asserts the same on a new interner with at most `limit` rows in a table.
+fn holds_within<F: FnOnce(&mut Interner) -> Result<bool, Refusal> + Drop>(
+    rt: &impl Abort,
+    alloc: Global,
+    limit: u32,
+    check: F,
+)
+    requires { F.IsAlwaysCallable check }
+{
+    assert_eq!(rt; answer_within(alloc, limit, check), Ok(true));
+}
 
 // Returns the variable of this number, below 1,000.
 fn variable(cx: &mut Interner, number: u32) -> Result<Ty, Refusal> {
