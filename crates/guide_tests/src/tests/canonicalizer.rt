@@ -15,7 +15,7 @@ use type_terms::{
 
 // An inference variable.
 #[derive(Clone, Copy, Debug, PartialEq, Eq)]
-enum Variable {
+enum InferenceVariable {
     Ty(InferTy),
     Region(RegionVid),
     Const(InferConst),
@@ -49,7 +49,7 @@ fn bound_var(number: u32) -> Result<BoundVar, Refusal> {
 // outside of every term, so its variables are not shifted under binders.
 #[derive(Drop)]
 struct Canonicalizer {
-    met: Vec<Variable>,
+    met: Vec<InferenceVariable>,
     // how many binders of the value enclose the place that was reached
     depth: DebruijnIndex,
 }
@@ -64,7 +64,7 @@ impl Canonicalizer {
     }
 
     // Returns the number of the variable in the query, a new one if the variable is new.
-    fn number_of(&mut self, variable: Variable) -> Result<BoundVar, Refusal> {
+    fn number_of(&mut self, variable: InferenceVariable) -> Result<BoundVar, Refusal> {
         let place = match self.met.iter().position(|met| *met == variable) {
             Some(place) => place,
             None => {
@@ -97,7 +97,7 @@ impl Replacer for Canonicalizer {
     fn replace_ty(&mut self, cx: &mut Interner, ty: Ty) -> Result<Step<Ty>, Fault> {
         match *ty.kind(cx) {
             TyKind::Infer(variable) => {
-                let var = self.number_of(Variable::Ty(variable))?;
+                let var = self.number_of(InferenceVariable::Ty(variable))?;
                 let kind = BoundTyKind::Anon;
                 let bound = TyKind::Bound(BoundVarIndexKind::Canonical, BoundTy { var, kind });
                 Ok(Step::Replace(cx.mk_ty(bound)?))
@@ -113,7 +113,7 @@ impl Replacer for Canonicalizer {
     fn replace_region(&mut self, _cx: &mut Interner, region: Region) -> Result<Region, Fault> {
         match region.kind() {
             RegionKind::ReVar(variable) => {
-                let var = self.number_of(Variable::Region(variable))?;
+                let var = self.number_of(InferenceVariable::Region(variable))?;
                 let kind = BoundRegionKind::Anon;
                 let bound = BoundRegion { var, kind };
                 Ok(Region::new(RegionKind::ReBound(BoundVarIndexKind::Canonical, bound))?)
@@ -129,7 +129,7 @@ impl Replacer for Canonicalizer {
     fn replace_const(&mut self, cx: &mut Interner, constant: Const) -> Result<Step<Const>, Fault> {
         match *constant.kind(cx) {
             ConstKind::Infer(variable) => {
-                let var = self.number_of(Variable::Const(variable))?;
+                let var = self.number_of(InferenceVariable::Const(variable))?;
                 let bound = ConstKind::Bound(BoundVarIndexKind::Canonical, BoundConst::new(var));
                 Ok(Step::Replace(cx.mk_const(bound)?))
             }
