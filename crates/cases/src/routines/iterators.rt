@@ -84,12 +84,12 @@ pub fn items_are_instantiated(cx: &mut Interner) -> Result<bool, Refusal> {
     Ok(ends == (Some(instance), Some(byte)) && left == Some(1))
 }
 
-// Returns the instances of the values behind the first pointer and the last one, and how many pointers are left.
-fn first_and_last_pointed(
+// Returns the instance of the value behind the first pointer, and how many pointers are left.
+fn first_pointed(
     cx: &mut Interner,
     types: &[Ty],
     args: &[GenericArg],
-) -> Result<(Option<Ty>, Option<Ty>, usize), Refusal> {
+) -> Result<(Option<Ty>, usize), Refusal> {
     if !are_owned(cx, args) || !are_types(cx, types) {
         return Err(NOT_OWNED);
     }
@@ -97,26 +97,37 @@ fn first_and_last_pointed(
         types.iter(),
     ).iter_instantiated_copied(args);
     let first = instance(iter.next(cx))?;
-    // The next step has to know that these are the terms of the interner as the first one left it.
+    Ok((first, iter.len()))
+}
+
+// Returns the instance of the value behind the last pointer.
+fn last_pointed(
+    cx: &mut Interner,
+    types: &[Ty],
+    args: &[GenericArg],
+) -> Result<Option<Ty>, Refusal> {
     if !are_owned(cx, args) || !are_types(cx, types) {
         return Err(NOT_OWNED);
     }
-    let last = instance(iter.next_back(cx))?;
-    Ok((first, last, iter.len()))
+    let mut iter: IterInstantiatedCopied<_> = EarlyBinder::bind(
+        types.iter(),
+    ).iter_instantiated_copied(args);
+    instance(iter.next_back(cx))
 }
 
-/// The values behind pointers are instantiated from both ends. If there is one value, the other end has none left.
+/// The values behind pointers are instantiated from either end. Where there is none, there is no instance.
 pub fn pointed_items_are_instantiated(cx: &mut Interner) -> Result<bool, Refusal> {
     let param = param_ty(cx, 0)?;
     let slice = ty(cx, TyKind::Slice(param))?;
     let one = tuple(cx, &[param])?;
     let number = u32_ty(cx)?;
     let list = [GenericArg::from(number)];
-    let both = first_and_last_pointed(cx, &[slice, param, one], &list)?;
-    let only = first_and_last_pointed(cx, &[slice], &list)?;
+    let first = first_pointed(cx, &[slice, param, one], &list)?;
+    let last = last_pointed(cx, &[slice, param, one], &list)?;
+    let none = first_pointed(cx, &[], &list)?;
     let numbers = ty(cx, TyKind::Slice(number))?;
     let single = tuple(cx, &[number])?;
-    Ok(both == (Some(numbers), Some(single), 1) && only == (Some(numbers), None, 0))
+    Ok(first == (Some(numbers), 2) && last == Some(single) && none == (None, 0))
 }
 
 /// A sum of nine numbers, of none, and the first error among three.
