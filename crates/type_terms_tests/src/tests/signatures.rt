@@ -90,7 +90,7 @@ fn views_are_read() -> bool {
     view.args() == args
         && view.start() == 2
         && view.count() == 3
-        && GenericArgsSlice::from_parts(args, 2, 0).is_empty()
+        && GenericArgsSlice::from_parts(args, 2, 0).count() == 0
 }
 
 // Another type under the binder of an unsafe binder's type.
