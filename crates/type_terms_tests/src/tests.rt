@@ -9,6 +9,7 @@ mod nodes;
 mod orders;
 mod owned;
 mod parts;
+mod plain_values;
 mod queries;
 mod reads;
 mod signatures;
