@@ -17,6 +17,9 @@ NAME = os.path.basename(sys.argv[0])
 TIME = shutil.which("time")
 VALGRIND = shutil.which("valgrind")
 COUNTED = [VALGRIND, "--tool=cachegrind", "--cache-sim=no", "--cachegrind-out-file=/dev/null"]
+# Valgrind counts each byte of a block copy as an instruction, where glibc copies by one instruction (`rep movsb`). With these
+# limits glibc copies by loads and stores.
+LOADS_AND_STORES = ":".join(f"glibc.cpu.x86_rep_{it}_threshold=1000000000" for it in ("movsb", "stosb"))
 NONE = "–"
 
 # What was measured of a program on a script. `wrong` says why nothing else was, and `instructions` may be None.
@@ -76,7 +79,8 @@ class Bench:
         if not VALGRIND:
             return None
         with open(self.script, "rb") as script:
-            ran = subprocess.run([*COUNTED, program], stdin=script, stdout=subprocess.DEVNULL, stderr=subprocess.PIPE)
+            how = {"stdin": script, "stdout": subprocess.DEVNULL, "stderr": subprocess.PIPE}
+            ran = subprocess.run([*COUNTED, program], env={**os.environ, "GLIBC_TUNABLES": LOADS_AND_STORES}, **how)
         found = re.search(rb"I +refs: +([\d,]+)", ran.stderr)
         return int(found[1].replace(b",", b"")) if found and not ran.returncode else None
 
