@@ -6,10 +6,17 @@ import re
 from calls import anchor_at, anchor_of, anchors, name_of, owner_anchor
 from edits import TOP, read
 
-TEMPLATE = f"{TOP}/tools/calls_page.html"
 # In a doc comment: a link to an item, with or without its path; code; and a link to another site
 SPAN = re.compile(r"\[`([^`]*)`\](?:\(([^)]*)\))?|`([^`]*)`|\[([^\]]*)\]\((https?://[^)]*)\)")
 KEYWORD = re.compile(r"^(requires|ensures|ghost)\b")
+
+
+def filled(template, parts):
+    """Returns the text of a template of tools/, with the parts in the places that it names, and the style of the pages."""
+    text = read(f"{TOP}/tools/{template}")
+    for name, part in {"style": read(f"{TOP}/tools/page.css"), **parts}.items():
+        text = text.replace(f"<!-- {name} -->\n", part)
+    return text
 
 
 def escaped(text):
@@ -147,5 +154,5 @@ def page(sections):
     # The name of a type leads to the calls that it has for all arguments, if there are some.
     groups.sort(key=lambda it: "-" not in type_anchor(it))
     names = {**{it.type.name: type_anchor(it) for it in groups}, **anchors(sections)}
-    text = read(TEMPLATE).replace("<!-- contents -->\n", "".join(contents(it) for it in sections))
-    return text.replace("<!-- sections -->\n", "\n".join(section_html(it, names) for it in sections))
+    parts = {"contents": "".join(map(contents, sections)), "sections": "\n".join(section_html(it, names) for it in sections)}
+    return filled("calls_page.html", parts)

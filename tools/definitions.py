@@ -15,8 +15,23 @@ MODULE = re.compile(r"^( *)module _ ")
 WORD = re.compile(r"(?:(\w+)\.)?([\w«»◌∷≡≤+⊎×⟨⟩]+)")
 BODY = re.compile(r"\n *(?:\{\}?|;) *(?=\n|$)|;\n|\{\}$")
 
-# A definition: its file, its names, its first line there, its lines, what the comment above it says, and all text that it cites
-Definition = collections.namedtuple("Definition", "file names place lines words text")
+# A definition: its file, its names, its first line there, its lines, and the heads of the modules that it is in
+Definition = collections.namedtuple("Definition", "file names place lines around")
+
+
+def is_comment(line):
+    return line.lstrip().startswith("--")
+
+
+def words(definition):
+    """Returns what the comment above the definition says."""
+    lines = itertools.dropwhile(lambda it: not is_comment(it), definition.lines)
+    return " ".join(it.strip()[3:] for it in itertools.takewhile(is_comment, lines))
+
+
+def code(definition):
+    """Returns the definition's text without comments, below the heads of its modules."""
+    return "\n".join([*definition.around, *(it.partition(" --")[0] for it in definition.lines if not is_comment(it))])
 
 
 def imported(text):
@@ -31,7 +46,7 @@ def imported(text):
     return names, files
 
 
-def blocks(text):
+def paragraphs(text):
     """Returns the paragraphs of a file with the numbers of their first lines."""
     found, start = [], None
     lines = text.split("\n")
@@ -48,59 +63,57 @@ class File:
     """A file of specs/."""
 
     def __init__(self, crate, path):
-        self.path, self.text = path, read(path)
+        text = read(path)
+        self.crate, self.path, self.definitions, around = crate, path, [], []
         self.module = os.path.relpath(path, f"{TOP}/crates/{crate}/specs")[: -len(".antt")].replace("/", ".")
-        self.crate, self.imports, self.definitions, around = crate, imported(self.text), [], []
-        self.words = self.text.partition("\n")[0].removeprefix("-- ")
-        for start, lines in blocks(self.text):
-            code = [it for it in lines if not it.lstrip().startswith("--")]
-            names = [it[1] or it[2] for it in map(NAMED.match, code) if it]
-            if not code or code[0].startswith(("use ", "pub use ")):
+        self.imports, self.words = imported(text), text.partition("\n")[0].removeprefix("-- ")
+        for start, lines in paragraphs(text):
+            said = [it for it in lines if not is_comment(it)]
+            if not said or said[0].startswith(("use ", "pub use ")):
                 continue
-            indent = len(code[0]) - len(code[0].lstrip())
+            indent = len(said[0]) - len(said[0].lstrip())
             around = [it for it in around if it[0] < indent]
-            first = next((at for at, it in enumerate(lines) if it.lstrip().startswith("--")), len(lines))
-            words = " ".join(it.strip()[3:] for it in itertools.takewhile(lambda it: it.lstrip().startswith("--"), lines[first:]))
-            names = [name for it in names for name in it.split() if it != "where"]
-            cited = "\n".join([*(it for _, it in around), *(it.partition(" --")[0] for it in code)])
+            names = [name for it in map(NAMED.match, said) if it for name in (it[1] or it[2]).split()]
             if names:
-                self.definitions.append(Definition(self, names, start, len(lines), words, cited))
-            header = [MODULE.match(it) for it in code]
-            around += [(len(it[1]), it.string) for it in header if it]
+                self.definitions.append(Definition(self, names, start, lines, [it for _, it in around]))
+            around += [(len(it[1]), it.string) for it in map(MODULE.match, said) if it]
 
     def named(self, name):
-        """Returns the definitions of this name, which may be of several clauses."""
+        """Returns the definitions of this name, which may be of several paragraphs."""
         return [it for it in self.definitions if name in it.names]
 
 
 @functools.lru_cache(maxsize=None)
 def files():
-    """Returns the files of specs/ of the library by crate and module."""
-    paths = [(os.path.basename(it), path) for it in library() for path in glob.glob(f"{it}/specs/**/*.antt", recursive=True)]
-    return {(it.crate, it.module): it for it in (File(crate, path) for crate, path in paths)}
+    """Returns the files of specs/ of the library by crate and module, lower crates first."""
+    found = {it: sorted(glob.glob(f"{it}/specs/**/*.antt", recursive=True)) for it in library()}
+    every = [File(os.path.basename(folder), path) for folder, paths in found.items() for path in paths]
+    return {(it.crate, it.module): it for it in every}
 
 
 def defined(crate, path, name):
     """Returns the definitions that a name imported from this path means."""
     parts = path.split(".")
-    file = next((files()[it] for end in range(len(parts), 0, -1) if (it := (crate, ".".join(parts[:end]))) in files()), None)
+    places = [(crate, ".".join(parts[:end])) for end in range(len(parts), 0, -1)]
+    file = next((files()[it] for it in places if it in files()), None)
     if file is None:
         return []
     passed_on = file.imports[0].get(name)
     return file.named(name) or (defined(*passed_on) if passed_on else [])
 
 
+def meant(alias, name, imports, file=None):
+    """Returns the definitions that a word of a text with these imports means."""
+    names, aliases = imports
+    found = defined(*aliases[alias], name) if alias in aliases else []
+    for it in filter(None, (alias, name)):
+        found = found or (file.named(it) if file else []) or (defined(*names[it]) if it in names else [])
+    return found
+
+
 def cited(text, imports, file=None):
     """Returns the definitions that a text with these imports names."""
-    names, aliases = imports
-    found = []
-    for alias, name in WORD.findall(text):
-        if alias in aliases:
-            found += defined(*aliases[alias], name)
-        for it in filter(None, (alias, name)):
-            found += file.named(it) if file else []
-            found += defined(*names[it]) if it in names else []
-    return found
+    return [it for alias, name in WORD.findall(text) for part in ((alias, name), ("", alias)) for it in meant(*part, imports, file)]
 
 
 def reached(text, imports):
@@ -110,14 +123,14 @@ def reached(text, imports):
         it = left.pop()
         if (it.file.path, it.place) not in found:
             found[it.file.path, it.place] = it
-            left += cited(it.text, it.file.imports, it.file)
-    return found
+            left += cited(code(it), it.file.imports, it.file)
+    return list(found.values())
 
 
 def contract(crate, name):
-    """Returns what the contracts of the functions of this name say, with the imports of their files."""
+    """Returns the signatures and contracts of the functions of this name, with the imports of their files."""
     for path in sorted(glob.glob(f"{TOP}/crates/{crate}/src/**/*.rt", recursive=True)):
         text = read(path)
         for it in functions(path, text):
             if it.name.endswith(name) and "ensures" in it.text:
-                yield BODY.split(COMMENT.sub("", it.text))[0], imported(text)
+                yield BODY.split(COMMENT.sub("", it.text))[0], imported(text), path
