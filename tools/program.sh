@@ -5,6 +5,7 @@
 #   name     the command in bin/, which begins each message
 #   crate    the program's crate
 #   library  the crate that the program uses
+#   takes_words  set where the program takes words of its own
 
 top=$(cd "$(dirname "${BASH_SOURCE[0]}")/.." && pwd)
 program=$top/crates/$crate/out/$crate
@@ -79,24 +80,32 @@ build() {
     trap - EXIT
 }
 
-# Builds the program if need be, and runs it on standard input. The arguments are the command's.
+# Builds the program if need be, and runs it on standard input. The arguments are the command's. Further words than --unproved are
+# the program's, if it takes any.
 run_program() {
+    local proves=yes
     if ! command -v rt > /dev/null; then
         say "the command rt isn't on the path: this needs the Rattle kit"
         exit 2
     fi
-    case "$#:${1-}" in
-    0:) ;;
-    1:--unproved)
-        say "nothing is proved: rt try builds the program without proofs, in a minute or two"
-        cd "$top/crates/$crate" || exit 2
-        exec rt try
-        ;;
-    *)
+    if [ "${1-}" = --unproved ]; then
+        proves=
+        shift
+    fi
+    if [ "$#" != 0 ] && [ -z "${takes_words-}" ]; then
         echo "usage: bin/$name [--unproved] < FILE" >&2
         exit 2
-        ;;
-    esac
+    fi
+    if [ -z "$proves" ]; then
+        say "nothing is proved: rt try builds the program without proofs, in a minute or two"
+        # `rt try` gives the program no file, so a file that is the last word becomes its input.
+        if [ "$#" != 0 ] && [ -f "${!#}" ]; then
+            exec < "${!#}"
+            set -- "${@:1:$#-1}"
+        fi
+        cd "$top/crates/$crate" || exit 2
+        exec rt try -- "$@"
+    fi
     is_built || build
-    exec "$program"
+    exec "$program" "$@"
 }

@@ -31,7 +31,7 @@ use tt_index::{DebruijnIndex, GREATEST_INDEX, Refusal};
 use tt_interner::{Flags, Interner};
 use tt_kinds::{
     BoundConst, BoundRegion, BoundTy, BoundVarIndexKind, BoundVarKinds, Clauses, Const, ConstKind,
-    Node, Predicate, Region, RegionKind, Ty, TyKind,
+    Predicate, Region, RegionKind, Ty, TyKind,
 };
 
 // Returns the index that a variable under `binders_passed` binders of the contents has outside of the opened binder, or
@@ -249,7 +249,7 @@ impl<S: SliceLike> TypeFolder for BinderOpener<S> {
         if !self.opens(ty.outer_exclusive_binder(cx)) {
             return Ok(Step::Keep);
         }
-        let kind = cx.node_kind(Node::Ty(ty));
+        let kind = cx.node_kind(ty.any());
         match bound_ty(&kind) {
             Some((index, bound_ty)) => {
                 let opened = opened_ty(
@@ -281,7 +281,7 @@ impl<S: SliceLike> TypeFolder for BinderOpener<S> {
         if !self.opens(constant.outer_exclusive_binder(cx)) {
             return Ok(Step::Keep);
         }
-        let kind = cx.node_kind(Node::Const(constant));
+        let kind = cx.node_kind(constant.any());
         match bound_const(&kind) {
             Some((index, bound_const)) => {
                 let opened = opened_const(

@@ -1,18 +1,17 @@
 -- The kinds that calls name, over plain variables.
-use Rattle.std.proofs.Common.{Ok, ◌≡◌, ℕ, ◌<◌, List, [], ap}
+use Rattle.std.proofs.Common.{◌≡◌, ℕ, ◌<◌, List, ap}
 use Rattle.tt_kinds.specs.Label.{Name, Sort}
 use Rattle.tt_kinds.specs.Tree as tree
 use Rattle.tt_kinds.specs.Tree.{Depth}
-use Rattle.tt_kinds.specs.Label.{Label, Entry}
+use Rattle.tt_kinds.specs.Label.{Entry}
 use Rattle.tt_kinds.specs.Shape as shape
-use Rattle.tt_kinds.specs.Shape.{Shape, fill, name_of, rename_label, rename_entry, IsNamedKind, IsNamedLabel}
+use Rattle.tt_kinds.specs.Shape.{fill, name_of, rename_entry, IsNamedKind}
 use Rattle.tt_kinds.specs.declared.table.Table.TheVariants.{Symbols}
 use Rattle.tt_interner.specs.Rows.{size, meaning}
 use Rattle.tt_interner.specs.Stored.{Terms}
-use Rattle.tt_calls.specs.CallForm.{param, bound, plain}
+use Rattle.tt_calls.specs.CallForm.{param, bound}
 use Rattle.tt_calls.specs.Told.{Told}
-use Rattle.tt_calls.specs.Build.{IsKindOf, GivesKind}
-use Rattle.tt_calls.proofs.PartLaws.{plain-kind, parts-none}
+use Rattle.tt_calls.specs.Build.{IsKindOf}
 
 -- a parameter
 pub param-kind : (terms : Terms) (e : List Told) (s : Sort) (i n : ℕ) (bytes : Name) → n < size terms.rows Symbols
@@ -27,12 +26,3 @@ pub bound-kind : (terms : Terms) (e : List Told) (s : Sort) (d : Depth) (x : Ent
 unfolding fill
 bound-kind terms e s d x y h m =
     record { parts = h; means = ap (tree.bound s d) m; named = tt; deep = (λ g. g, λ g. g) }
-
--- a kind without contents
-pub leaf-kind : {K : Type 0} (of_kind : K → Shape) (terms : Terms) (e : List Told) (l : Label Name) (m : Label ℕ) (k : K) → of_kind k ≡ shape.term m shape.none
-    → IsNamedLabel (size terms.rows) m → rename_label (name_of (meaning terms.rows)) m ≡ l
-    → GivesKind terms e (plain l []) of_kind (Ok k)
-leaf-kind of_kind terms e l m k h n q = record {
-  ok = rw h (plain-kind terms e l [] m shape.none (parts-none terms e) n q);
-  err = tt;
-}

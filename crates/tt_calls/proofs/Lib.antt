@@ -12,5 +12,7 @@ pub mod RoomLaws
 pub mod BuildLaws
 pub mod NameLaws
 pub mod KindLaws
+pub mod FormLaws
+pub mod ChildLaws
 pub mod QueryLaws
 pub mod DeclareLaws

@@ -10,28 +10,22 @@ use Rattle.std.specs.declared.vec.Vec.{Vec}
 use Rattle.tt_index.specs.declared.refusal.Refusal.{Refusal}
 use Rattle.tt_index.specs.declared.refusal.Refusal.TheVariants.{GreatestIndex, NoSuchAnswer}
 use Rattle.tt_kinds.specs.Tree.{Tree, Depth, Forest}
-use Rattle.tt_kinds.specs.Label.{Name, Label, RecordLabel, record_label, type_label, dynamic_type}
+use Rattle.tt_kinds.specs.Label.{Name, Label, type_label, dynamic_type}
 use Rattle.tt_kinds.specs.Shape as shape
-use Rattle.tt_kinds.specs.Shape.{Shape, Shapes, Sizes, fill, fill_all, name_of, rename_label, rename_record}
-use Rattle.tt_kinds.specs.Shape.{IsNamedLabel, IsNamedRecord, IsPart, AreParts, item_shapes}
-use Rattle.tt_kinds.specs.Kinds.{RecordForm, region_shape, child_shapes, term_kind_shape, term_shape}
-use Rattle.tt_kinds.specs.Parts.{term_kind_child, term_child}
-use Rattle.tt_kinds.specs.declared.term.Term.{Term}
-use Rattle.tt_kinds.specs.declared.term.TermKind.{TermKind}
-use Rattle.tt_kinds.specs.declared.term.TermKind.TheVariants as term
+use Rattle.tt_kinds.specs.Shape.{Shape, Shapes, Sizes, fill, fill_all, name_of, rename_label}
+use Rattle.tt_kinds.specs.Shape.{IsNamedLabel, IsPart, AreParts, item_shapes}
+use Rattle.tt_kinds.specs.Kinds.{region_shape}
 use Rattle.tt_kinds.specs.declared.region_kind.RegionKind.{RegionKind}
-use Rattle.tt_kinds.specs.Handle.{BoundVarKinds}
 use Rattle.tt_interner.specs.Rows.{size, meaning}
 use Rattle.tt_interner.specs.Stored.{Terms, Extends}
 use Rattle.tt_interner.proofs.Growth.{IsPart-grows, AreParts-grows, fill-grows, fill_all-grows}
 use Rattle.tt_calls.specs.declared.call.RegionCall.{RegionCall}
-use Rattle.tt_calls.specs.declared.call.VariableCall.{VariableCall}
 use Rattle.tt_calls.specs.CallForm.{ExistentialForm, trait_object, existentials_tree, existential_positions}
 use Rattle.tt_calls.specs.CallForm.{IsExistentialTooDeep, all_trees, all_positions, AnyIsDeep, Named, Item, Part, one}
-use Rattle.tt_calls.specs.CallForm.{a_region, CallForm, plain, under, variable_kind, region_call_tree}
+use Rattle.tt_calls.specs.CallForm.{a_region, CallForm, plain, region_call_tree}
 use Rattle.tt_calls.specs.CallForm.{IsRegionTooDeep, item_tree, items_trees, item_positions, items_positions}
 use Rattle.tt_calls.specs.CallForm.{part_positions, parts_positions, IsItemTooDeep, AreItemsTooDeep, IsPartTooDeep}
-use Rattle.tt_calls.specs.CallForm.{ArePartsTooDeep, form_positions, IsFormTooDeep, RecordCall, record_tree}
+use Rattle.tt_calls.specs.CallForm.{ArePartsTooDeep, form_positions, IsFormTooDeep}
 use Rattle.tt_calls.specs.Told.{Told, HasFullTable}
 use Rattle.tt_calls.specs.Means.{number_at, tree_at, AreTerms}
 use Rattle.tt_calls.specs.Build as build
@@ -39,7 +33,7 @@ use Rattle.tt_calls.specs.Build.{IsUnbuiltPart, IsUnusable, IsUsable, IsPlaced, 
 use Rattle.tt_calls.specs.Build.{IsPartOfCall}
 use Rattle.tt_calls.specs.Build.{ArePartsOfCall, GivesPart, GivesParts, GivesPlaced, GivesItems, FillsPlaced}
 use Rattle.tt_calls.specs.Build.{FillsItems}
-use Rattle.tt_calls.specs.Build.{IsRegionOf, IsVariableListOf, IsKindOf, GivesKind, GivesRecord}
+use Rattle.tt_calls.specs.Build.{IsRegionOf, IsKindOf, GivesKind}
 
 -- positions of two lists
 pub AreTerms-append : (e : List Told) (ms ns : List Named) → AreTerms e ms → AreTerms e ns → AreTerms e (ms ++ ns)
@@ -284,62 +278,6 @@ plain-kind terms e l ps m ss h n q = record {
   named = h.named;
   deep = (λ d. absurd d, h.shallow);
 }
-
--- the same where the children are in a record under a binder
-pub under-kind : (terms : Terms) (e : List Told) (l : Label Name) (vs : List VariableCall) (k : RecordLabel Name) (ps : List Part)
-    (m : Label ℕ) (vars : BoundVarKinds) (n : RecordLabel ℕ) (ss : Shapes)
-    → ArePartsOfCall terms e ps ss → IsVariableListOf terms (number_at e) vs vars
-    → IsNamedLabel (size terms.rows) m → rename_label (name_of (meaning terms.rows)) m ≡ l
-    → IsNamedRecord (size terms.rows) n → rename_record (name_of (meaning terms.rows)) n ≡ k
-    → IsKindOf terms e (under l (map (variable_kind (number_at e)) vs) k ps)
-    (shape.term m (shape.also (shape.binder vars.number (shape.node (record_label n) ss)) shape.none))
-unfolding fill
-under-kind terms e l vs k ps m vars n ss h v nl ql nr qr = record {
-  parts = (nl, ((v.in_range, (refl, nr, h.parts)), tt));
-  means = rw (ql, qr, v.means, h.means) refl;
-  named = h.named;
-  deep = (λ d. absurd d, h.shallow);
-}
-
--- what is under a predicate's binder
-pub record-placed : (terms : Terms) (e : List Told) (r : RecordCall) (n : RecordLabel ℕ) (ss : Shapes) → ArePartsOfCall terms e r.parts ss
-    → IsNamedRecord (size terms.rows) n → rename_record (name_of (meaning terms.rows)) n ≡ r.label
-    → IsPlaced terms e (record_tree (number_at e) (tree_at e) r) (parts_positions r.parts) (ArePartsTooDeep r.parts) (shape.node (record_label n) ss)
-unfolding fill
-record-placed terms e r n ss h k q = record {
-  part = (refl, k, h.parts);
-  means = rw (q, h.means) refl;
-  named = h.named;
-  shallow = h.shallow;
-}
-
--- a placed record under a binder of a call's variables, with the call's label, is the kind that the call names
-pub bound-record : (terms : Terms) (e : List Told) (l : Label Name) (vs : List VariableCall) (r : RecordCall) (m : Label ℕ) (vars : BoundVarKinds) (s : Shape)
-    → IsPlaced terms e (record_tree (number_at e) (tree_at e) r) (parts_positions r.parts) (ArePartsTooDeep r.parts) s → IsVariableListOf terms (number_at e) vs vars
-    → IsNamedLabel (size terms.rows) m → rename_label (name_of (meaning terms.rows)) m ≡ l
-    → IsKindOf terms e (under l (map (variable_kind (number_at e)) vs) r.label r.parts) (shape.term m (shape.also (shape.binder vars.number s) shape.none))
-unfolding fill
-bound-record terms e l vs r m vars s h v n q = record {
-  parts = (n, ((v.in_range, h.part), tt));
-  means = rw (q, v.means, h.means) refl;
-  named = h.named;
-  deep = (λ d. absurd d, h.shallow);
-}
-
--- a term as a child
-term_kind-child : (k : TermKind) → child_shapes (term_kind_child k) ≡ shape.also (term_kind_shape k) shape.none
-term_kind-child (term.Ty t) = refl
-term_kind-child (term.Const c) = refl
-
--- a type or a constant, taken as a child, has its own shape alone
-pub term-child : (t : Term) → child_shapes (term_child t) ≡ shape.also (term_shape t) shape.none
-term-child t = term_kind-child t.kind
-
--- an error that is passed on is the refusal of a record, if it is a reason why the record was not built
-pub record-passed : {K : Type 0} (terms : Terms) (e : List Told) (r : RecordCall) (form : K → RecordForm) (result : Result K Refusal) (x : Refusal) → IsErrAnd result (λ y. y ≡ x)
-    → IsUnbuiltPart (HasFullTable terms) e (parts_positions r.parts) (ArePartsTooDeep r.parts) x → GivesRecord terms e r form result
-record-passed terms e r form (Ok k) x h u = absurd h
-record-passed terms e r form (Err y) x h u = record { ok = tt; err = rw h u }
 
 -- what a question mark passes on
 pub part-passed : {H : Type 0} (terms : Terms) (e : List Told) (p : Part) (of_value : H → Shape) (result : Result H Refusal) (r : Refusal) → IsErrAnd result (λ x. x ≡ r)

@@ -1,30 +1,30 @@
 -- Why a building call is refused for want of room: something of what it builds isn't there.
-use Rattle.std.proofs.Common.{◌≡◌, ℕ, ◌<◌, List, [], ◌∷◌, length, map, Result, Ok, Err, Some, ap, sym, ◌∙◌, subst}
+use Rattle.std.proofs.Common.{◌≡◌, ℕ, ◌<◌, List, length, map, Result, Ok, Err, Some, ap, sym, ◌∙◌, subst}
 use Rattle.std.proofs.Common.{arith}
-use Rattle.std.specs.Prelude.{IfErr, OnErr, slice_get}
+use Rattle.std.specs.Prelude.{IfErr, slice_get}
 use Rattle.std.proofs.lemmas.List.{length-map}
 use Rattle.std.proofs.lemmas.List.Elements.{All-get_or}
 use Rattle.std.proofs.lemmas.Option.{slice_get_within, get_or_from_slice_get}
 use Rattle.tt_index.specs.declared.refusal.Refusal.{Refusal}
 use Rattle.tt_index.specs.declared.refusal.Refusal.TheVariants.{NoSuchAnswer}
-use Rattle.tt_kinds.specs.Label.{Name, Sort, VarKind, Label, RecordLabel, type_label, dynamic_type, list_label}
-use Rattle.tt_kinds.specs.Label.{record_label, unstable_feature_record, var_list_label}
+use Rattle.tt_kinds.specs.Label.{type_label, dynamic_type, list_label}
+use Rattle.tt_kinds.specs.Label.{var_list_label}
 use Rattle.tt_kinds.specs.Tree as tree
 use Rattle.tt_kinds.specs.Tree.{Tree, Depth, node}
 use Rattle.tt_kinds.specs.Shape as shape
-use Rattle.tt_kinds.specs.Shape.{Shape, Shapes, fill, item_shapes, HasParts}
+use Rattle.tt_kinds.specs.Shape.{Shapes, fill, item_shapes, HasParts}
 use Rattle.tt_kinds.specs.Kinds.{existential_shape}
 use Rattle.tt_kinds.specs.Handle.{PolyExistentialPredicate}
 use Rattle.tt_kinds.specs.declared.bound.BoundVariableKind.{BoundVariableKind}
 use Rattle.tt_kinds.specs.declared.table.Table.{Table}
 use Rattle.tt_kinds.specs.declared.table.Table.TheVariants.{ExistentialLists}
-use Rattle.tt_interner.specs.Rows.{Row, text_row, vars_row, existentials_row, row_shape, size, meaning, IsNew}
+use Rattle.tt_interner.specs.Rows.{Row, vars_row, existentials_row, row_shape, size, meaning}
 use Rattle.tt_interner.specs.Stored.{Terms, Builds, most_in_place}
 use Rattle.tt_calls.specs.declared.answer.Answer.{Answer}
 use Rattle.tt_calls.specs.declared.call.RegionCall.{RegionCall}
 use Rattle.tt_calls.specs.declared.call.VariableCall.{VariableCall}
-use Rattle.tt_calls.specs.CallForm.{Item, Part, one, a_region, a_list, CallForm, param, plain, under, trait_object}
-use Rattle.tt_calls.specs.CallForm.{ExistentialForm, IsShortExistential, RecordCall, labelled_parts, all_trees}
+use Rattle.tt_calls.specs.CallForm.{Item, one, a_region, a_list, CallForm, trait_object}
+use Rattle.tt_calls.specs.CallForm.{ExistentialForm, IsShortExistential, all_trees}
 use Rattle.tt_calls.specs.CallForm.{existential_tree, existentials_tree, form_tree, Named, variable_kind}
 use Rattle.tt_calls.specs.CallForm.{variable_name_text, region_text, item_tree, part_tree}
 use Rattle.tt_calls.specs.Told.{Told, told_all, IsStored}
@@ -32,10 +32,10 @@ use Rattle.tt_calls.specs.Means.{number_at, tree_at}
 use Rattle.tt_calls.specs.Build.{ArePlaced, AreItemsOf, AreVariablesOf, IsKindOf}
 use Rattle.tt_calls.specs.Room.{IsRefusalForRoom, HasValue, LacksValue, LacksText, NeedsRoom, PartNeedsRoom}
 use Rattle.tt_calls.specs.Room.{VarsNeedRoom}
-use Rattle.tt_calls.specs.Room.{RecordNeedsRoom, ExistentialNeedsRoom, ExistentialsNeedRoom, FormNeedsRoom}
-use Rattle.tt_calls.proofs.ValueLaws.{in-term, in-node, in-binder, new-lacks, first-value, later-values, value-at}
+use Rattle.tt_calls.specs.Room.{ExistentialNeedsRoom, ExistentialsNeedRoom, FormNeedsRoom}
+use Rattle.tt_calls.proofs.ValueLaws.{in-term, in-node, new-lacks, first-value, later-values, value-at}
 use Rattle.tt_calls.proofs.PartLaws.{get-mapped}
-use Rattle.tt_calls.proofs.TextLaws.{region-lacks, param-lacks, variable-lacks, feature-lacks}
+use Rattle.tt_calls.proofs.TextLaws.{region-lacks, variable-lacks}
 
 -- what is stored is a value
 pub stored-value : (rows : List Row) (t : Table) (u : Tree Depth) → IsStored rows t u → HasValue rows u
@@ -96,16 +96,6 @@ long-vars-room rows ids cs (Err r) long = λ room short. let same = length-map c
 pub region-room : (rows : List Row) (e : List Told) (c : RegionCall) (r : Refusal) → (IsRefusalForRoom r → LacksText rows (region_text c)) → PartNeedsRoom rows e (one (a_region c)) r
 region-room rows e c r lacks room short = region-lacks rows (number_at e) c (lacks room)
 
--- a parameter's name is new
-pub param-room : (rows : List Row) (e : List Told) (s : Sort) (i : ℕ) (name : Name) (r : Refusal) → IsNew (text_row name) rows → FormNeedsRoom rows e (param s i name) r
-param-room rows e s i name r new room short = param-lacks rows s i name new
-
--- where the name of a refused parameter is new, the parameter is not there
-pub named-room : {K : Type 0} (rows : List Row) (e : List Told) (s : Sort) (i : ℕ) (name : Name) (result : Result K Refusal) → OnErr result (IsNew (text_row name) rows)
-    → IfErr result (FormNeedsRoom rows e (param s i name))
-named-room rows e s i name (Ok k) new = tt
-named-room rows e s i name (Err r) new = param-room rows e s i name r new
-
 -- a variable's name is new
 pub variable-room : (rows : List Row) (ids : ℕ → ℕ) (cs : List VariableCall) (i : ℕ) (c : VariableCall) (r : Refusal) → slice_get cs i ≡ Some c → LacksText rows (variable_name_text c)
     → VarsNeedRoom rows (map (variable_kind ids) cs) r
@@ -117,38 +107,6 @@ pub item-room : {C : Type 0} (item : C → Item) (rows : List Row) (e : List Tol
 item-room item rows e t cs i c r here h room short are v =
     h room tt are
     (value-at (item_tree (number_at e) (tree_at e)) rows (map item cs) i (item c) (get-mapped item cs i c here) (in-node rows are (list_label t) _ v).children)
-
--- a child of a term
-module _ (rows : List Row) (e : List Told) (l : Label Name) where
-  -- if a refusal for want of room says that a term's first child isn't there, it says so of the term
-  pub first-room : (p : Part) (ps : List Part) (r : Refusal) → PartNeedsRoom rows e p r → FormNeedsRoom rows e (plain l (p ∷ ps)) r
-  first-room p ps r h room short are v = h room short.0 are (first-value rows _ _ (in-term rows are l _ v))
-
-  -- if a refusal for want of room says that a term's second child isn't there, it says so of the term
-  pub second-room : (p q : Part) (ps : List Part) (r : Refusal) → PartNeedsRoom rows e q r → FormNeedsRoom rows e (plain l (p ∷ q ∷ ps)) r
-  second-room p q ps r h room short are v = h room short.1.0 are (first-value rows _ _ (later-values rows _ _ (in-term rows are l _ v)))
-
-  -- what is under a binder, and its variables
-  pub record-room : (vs : List (VarKind Name)) (c : RecordCall) (r : Refusal) → RecordNeedsRoom rows e c r → FormNeedsRoom rows e (under l vs c.label c.parts) r
-  record-room vs c r h room short are v = h room short.1 are (in-binder rows are vs _ (first-value rows _ _ (in-term rows are l _ v))).body
-
-  -- if a refusal for want of room says that a binder's list isn't there, it says so of the term
-  pub binder-room : (vs : List (VarKind Name)) (m : RecordLabel Name) (ps : List Part) (r : Refusal) → VarsNeedRoom rows vs r → FormNeedsRoom rows e (under l vs m ps) r
-  binder-room vs m ps r h room short are v = h room short.0 are (in-binder rows are vs _ (first-value rows _ _ (in-term rows are l _ v))).vars
-
--- a child of a record
-module _ (rows : List Row) (e : List Told) (m : RecordLabel Name) where
-  -- if a refusal for want of room says that a record's first child isn't there, it says so of the record
-  pub first-record-room : (p : Part) (ps : List Part) (r : Refusal) → PartNeedsRoom rows e p r → RecordNeedsRoom rows e (record { label = m; parts = p ∷ ps }) r
-  first-record-room p ps r h room short are v = h room short.0 are (first-value rows _ _ (in-node rows are (record_label m) _ v).children)
-
-  -- if a refusal for want of room says that a record's second child isn't there, it says so of the record
-  pub second-record-room : (p q : Part) (ps : List Part) (r : Refusal) → PartNeedsRoom rows e q r → RecordNeedsRoom rows e (record { label = m; parts = p ∷ q ∷ ps }) r
-  second-record-room p q ps r h room short are v = h room short.1.0 are (first-value rows _ _ (later-values rows _ _ (in-node rows are (record_label m) _ v).children))
-
--- the name of a feature is new
-pub feature-room : (rows : List Row) (e : List Told) (name : Name) (r : Refusal) → IsNew (text_row name) rows → RecordNeedsRoom rows e (labelled_parts (unstable_feature_record name) []) r
-feature-room rows e name r new room short = feature-lacks rows name new
 
 -- an existential predicate of a list
 pub existential-room : (rows : List Row) (e : List Told) (xs : List ExistentialForm) (i : ℕ) (x : ExistentialForm) (r : Refusal) → slice_get xs i ≡ Some x

@@ -1,14 +1,14 @@
 -- The texts in values: where a tree is a value's, its texts are stored.
 use Rattle.std.proofs.Common.{◌≡◌, ℕ, zero, suc, ◌<◌, List, [], ◌∷◌, map, Option, Some, None, refl, ap, sym, ◌∙◌}
-use Rattle.std.specs.Prelude.{slice_get}
+use Rattle.std.specs.Prelude.{slice_get, IfSome}
 use Rattle.std.specs.Option.{option_map}
 use Rattle.std.proofs.lemmas.Option.{none-some, same_Some, slice_get-map}
 use Rattle.tt_kinds.specs.Label.{Name, Sort, RegionName, anonymous, printed, named, environment, VarKind}
 use Rattle.tt_kinds.specs.Label.{region_variable, type_variable, const_variable, FreeRegion, static_region}
 use Rattle.tt_kinds.specs.Label.{erased_region, region_var, error_region, late_param_region, placeholder_region}
-use Rattle.tt_kinds.specs.Label.{unstable_feature_record, Label, var_list_label, text_label, record_label}
+use Rattle.tt_kinds.specs.Label.{unstable_feature_record, Label, RecordLabel, var_list_label, text_label, record_label}
 use Rattle.tt_kinds.specs.Tree as tree
-use Rattle.tt_kinds.specs.Tree.{Tree, Depth, node}
+use Rattle.tt_kinds.specs.Tree.{Tree, Forest, Depth, node}
 use Rattle.tt_kinds.specs.Shape as shape
 use Rattle.tt_kinds.specs.Shape.{Shape, Sizes, Meaning, fill, name_of, text_of, rename_region, rename_kind, rename_free}
 use Rattle.tt_kinds.specs.Shape.{rename_label, IsNamed, IsNamedKind, IsNamedFree, AreNamedKinds, IsNamedLabel, HasParts}
@@ -27,6 +27,7 @@ use Rattle.tt_calls.specs.declared.call.RegionCall.TheVariants.{ReVar, RePlaceho
 use Rattle.tt_calls.specs.CallForm.{called, variable_kind, region_call_tree, name_text, region_text}
 use Rattle.tt_calls.specs.CallForm.{variable_name_text}
 use Rattle.tt_calls.specs.Room.{HasValue, LacksValue, LacksText}
+use Rattle.tt_calls.specs.Parts.{record_text}
 use Rattle.tt_calls.proofs.ValueLaws.{IsNode, in-node, new-lacks}
 
 -- the text that a bound region is called
@@ -197,8 +198,10 @@ variable-lacks rows ids cs i c here lacks are v =
     (slice_get-map (variable_kind ids) cs i ∙ ap (option_map (variable_kind ids)) here) (var-text ids c) lacks
     (in-node rows are (var_list_label (map (variable_kind ids) cs)) tree.none v)
 
--- nor a record of a feature whose name is none
-pub feature-lacks : (rows : List Row) (name : Name) → IsNew (text_row name) rows → LacksValue rows (node (record_label (unstable_feature_record name)) tree.none)
-feature-lacks rows name new are v =
-    let n = in-node rows are (record_label (unstable_feature_record name)) tree.none v in
+-- where a value is a record, the name in its label is stored
+pub record-lacks : (rows : List Row) → AreRows rows → (m : RecordLabel Name) (ts : Forest Depth) → HasValue rows (node (record_label m) ts)
+    → IfSome (record_text m) (λ t. IsNew (text_row t) rows → ⊥)
+record-lacks rows are (unstable_feature_record name) ts v = λ new.
+    let n = in-node rows are (record_label (unstable_feature_record name)) ts v in
     known-text rows are name (feature-text (meaning rows) (size rows) n.label name n.named n.renamed) new
+record-lacks rows are _ ts v = tt

@@ -17,13 +17,7 @@ use Rattle.tt_interner.proofs.Fill.{fill-one_row, tree_table, label_table-rename
 use Rattle.tt_interner.proofs.ShapeLaws.{shape_one, root_of_row}
 use Rattle.tt_interner.proofs.ViewLaws.{row_no_view}
 use Rattle.tt_calls.specs.CallForm.{all_trees}
-use Rattle.tt_calls.specs.Room.{HasValue}
-
--- values with these trees, in order
-pub record HasValues (rows : List Row) (ts : Forest Depth) : Type 0 where
-  pub shapes : Shapes
-  pub parts : AreParts (size rows) shapes
-  pub means : fill_all (meaning rows) shapes ≡ ts
+use Rattle.tt_calls.specs.Room.{HasValue, HasValues}
 
 -- the first of some values
 first-shape : (rows : List Row) (ss : Shapes) (t : Tree Depth) (ts : Forest Depth) → AreParts (size rows) ss → fill_all (meaning rows) ss ≡ tree.also t ts → HasValue rows t

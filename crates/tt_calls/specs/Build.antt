@@ -10,7 +10,7 @@ use Rattle.tt_kinds.specs.Bound.{region_name, var_kind}
 use Rattle.tt_kinds.specs.Shape.{Shape, Shapes, name_of, rename_region, rename_kind, IsNamed, IsNamedKind}
 use Rattle.tt_kinds.specs.Shape.{AreNamedKinds, fill, fill_all, item_shapes, IsPart, AreParts, HasParts}
 use Rattle.tt_kinds.specs.Shape as shape
-use Rattle.tt_kinds.specs.Kinds.{RecordForm, record_shape, region_shape, arg_shape, clause_shape, tys_shape}
+use Rattle.tt_kinds.specs.Kinds.{region_shape, arg_shape, clause_shape, tys_shape}
 use Rattle.tt_kinds.specs.Declaration.{sort_of}
 use Rattle.tt_kinds.specs.Values.{declared_shapes, item_label}
 use Rattle.tt_kinds.specs.Handle.{Clause}
@@ -45,7 +45,7 @@ use Rattle.tt_calls.specs.CallForm.{declared_positions, of_id, CallForm, Named, 
 use Rattle.tt_calls.specs.CallForm.{item_tree, items_trees, part_tree, call_parts_trees, item_positions}
 use Rattle.tt_calls.specs.CallForm.{items_positions, part_positions, parts_positions, IsItemTooDeep, AreItemsTooDeep}
 use Rattle.tt_calls.specs.CallForm.{IsPartTooDeep, ArePartsTooDeep, form_positions, form_tree, IsFormTooDeep}
-use Rattle.tt_calls.specs.CallForm.{arg_item, arg_items, clause_items, RecordCall, record_tree}
+use Rattle.tt_calls.specs.CallForm.{arg_item, arg_items, clause_items}
 use Rattle.tt_calls.specs.Told.{Told, term, told, told_all, handle_table, IsOwnedAnswer, AreOwnedAnswers}
 use Rattle.tt_calls.specs.Told.{HasFullTable, setting}
 use Rattle.tt_calls.specs.Means.{as_term, term_at, as_id, id_at, number_at, TellsWanted, tree_at, told_argument}
@@ -247,14 +247,6 @@ pub record GivesKind {K : Type 0} (terms : Terms) (earlier : List Told) (form : 
     (result : Result K Refusal) : Type 0 where
   pub ok : IfOk result (λ k. IsKindOf terms earlier form (shape k))
   pub err : IfErr result (IsUnbuiltPart (HasFullTable terms) earlier (form_positions form) (IsFormTooDeep form))
-
--- the result is the record under the predicate's binder, or a refusal with a reason
-pub record GivesRecord {K : Type 0} (terms : Terms) (earlier : List Told) (r : RecordCall) (form : K → RecordForm)
-    (result : Result K Refusal) : Type 0 where
-  pub ok : IfOk result (λ k. IsPlaced terms earlier (record_tree (number_at earlier) (tree_at earlier) r)
-      (parts_positions r.parts) (ArePartsTooDeep r.parts) (record_shape (form k)))
-  pub err : IfErr result (IsUnbuiltPart (HasFullTable terms) earlier (parts_positions r.parts)
-      (ArePartsTooDeep r.parts))
 
 -- the list has the clauses at the positions
 pub record AreClausesAt (terms : Terms) (earlier : List Told) (positions : List ℕ) (list : List Clause) : Type 0 where

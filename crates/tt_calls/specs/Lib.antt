@@ -4,3 +4,4 @@ pub mod Told
 pub mod Means
 pub mod Room
 pub mod Build
+pub mod Parts

@@ -3,12 +3,12 @@ use Rattle.std.specs.Prelude.{◌≡◌, ℕ, ◌≤◌, length, List, Option, I
 use Rattle.tt_index.specs.declared.refusal.Refusal.{Refusal}
 use Rattle.tt_index.specs.declared.refusal.Refusal.TheVariants.{Memory, TableFull}
 use Rattle.tt_kinds.specs.Label.{Name, VarKind, var_list_label}
-use Rattle.tt_kinds.specs.Tree.{Tree, Depth, node, none}
-use Rattle.tt_kinds.specs.Shape.{Shape, fill, IsPart}
+use Rattle.tt_kinds.specs.Tree.{Tree, Forest, Depth, node, none}
+use Rattle.tt_kinds.specs.Shape.{Shape, Shapes, fill, fill_all, IsPart, AreParts}
 use Rattle.tt_interner.specs.Rows.{Row, text_row, size, meaning, IsNew, AreRows}
 use Rattle.tt_interner.specs.Stored.{most_in_place}
-use Rattle.tt_calls.specs.CallForm.{CallForm, Part, RecordCall, ExistentialForm, IsShort, AreShort}
-use Rattle.tt_calls.specs.CallForm.{IsShortExistential, AreShortExistentials, IsOfShortLists, part_tree, record_tree}
+use Rattle.tt_calls.specs.CallForm.{CallForm, Part, ExistentialForm, IsShort}
+use Rattle.tt_calls.specs.CallForm.{IsShortExistential, AreShortExistentials, IsOfShortLists, part_tree}
 use Rattle.tt_calls.specs.CallForm.{existential_tree, existentials_tree, clauses_tree, form_tree}
 use Rattle.tt_calls.specs.Told.{Told}
 use Rattle.tt_calls.specs.Means.{number_at, tree_at}
@@ -24,6 +24,12 @@ pub record HasValue (rows : List Row) (t : Tree Depth) : Type 0 where
   pub shape : Shape
   pub part : IsPart (size rows) shape
   pub means : fill (meaning rows) shape ≡ t
+
+-- values whose handles are in range have these trees, in order
+pub record HasValues (rows : List Row) (ts : Forest Depth) : Type 0 where
+  pub shapes : Shapes
+  pub parts : AreParts (size rows) shapes
+  pub means : fill_all (meaning rows) shapes ≡ ts
 
 -- no value whose handles are in range has this tree
 abbrev pub LacksValue : List Row → Tree Depth → Type 0
@@ -44,11 +50,6 @@ PartNeedsRoom rows earlier p r = NeedsRoom rows (IsShort p) (part_tree (number_a
 -- the same for the list of a binder's variables
 abbrev pub VarsNeedRoom : List Row → List (VarKind Name) → Refusal → Type 0
 VarsNeedRoom rows vs r = NeedsRoom rows (length vs ≤ most_in_place) (node (var_list_label vs) none) r
-
--- the same for the record under a predicate's binder
-abbrev pub RecordNeedsRoom : List Row → List Told → RecordCall → Refusal → Type 0
-RecordNeedsRoom rows earlier c r = NeedsRoom rows (AreShort c.parts)
-    (record_tree (number_at earlier) (tree_at earlier) c) r
 
 -- the same for an existential predicate
 abbrev pub ExistentialNeedsRoom : List Row → List Told → ExistentialForm → Refusal → Type 0

@@ -5,6 +5,7 @@ pub mod consts;
 pub mod declarations;
 pub mod existentials;
 pub mod lists;
+pub mod parts;
 pub mod patterns;
 pub mod predicates;
 pub mod regions;

@@ -33,7 +33,8 @@ use Rattle.tt_kinds.specs.declared.const_kind.ValTreeKind.TheVariants as valtree
 use Rattle.tt_kinds.specs.declared.parts.Kind.{Kind}
 use Rattle.tt_kinds.specs.declared.parts.Kind.TheVariants as kind
 use Rattle.tt_kinds.specs.declared.table.Table.{Table}
-use Rattle.tt_kinds.specs.declared.table.Table.TheVariants.{Types, Consts, Predicates, ClauseLists}
+use Rattle.tt_kinds.specs.declared.table.Table.TheVariants.{Predicates, ClauseLists}
+use Rattle.tt_kinds.specs.declared.table.TermTable.TheVariants as terms_of
 use Rattle.tt_interner.specs.Rows.{Row, type_row, const_row, pat_row, predicate_row, existential_row, clauses_row}
 use Rattle.tt_interner.specs.Rows.{tys_row, consts_row, args_row, pats_row, vars_row, existentials_row, assumptions_row}
 use Rattle.tt_interner.specs.Rows.{text_row, declared_row, defined_row, row_table, row_shape, table, size, meaning}
@@ -229,7 +230,7 @@ type_tree f (kind.Predicate k) i b h = absurd (cc)
 type_tree f (kind.Existential k) i b h = absurd (cc)
 
 -- the tree of any other kind of type is no bound variable
-pub type_other : (f : Meaning) (k : Kind) → kind_table k ≡ Types → bound_ty_of k ≡ None → IsVariable (fill f (kind_shape k)) → ⊥
+pub type_other : (f : Meaning) (k : Kind) → kind_table k ≡ terms_of.Types → bound_ty_of k ≡ None → IsVariable (fill f (kind_shape k)) → ⊥
 type_other f (kind.Ty k) t h = unbound-other (fill f (ty_kind_shape k)) (free-unbound f type_sort (relabelled type_label (ty_form k)) (free-relabelled type_label (ty_form k) (free_ty k h)))
 type_other f (kind.Const k) t h = absurd (cc)
 type_other f (kind.Pat k) t h = absurd (cc)
@@ -260,7 +261,7 @@ const_tree f (kind.Predicate k) i b h = absurd (cc)
 const_tree f (kind.Existential k) i b h = absurd (cc)
 
 -- the tree of any other kind of constant is no bound variable
-pub const_other : (f : Meaning) (k : Kind) → kind_table k ≡ Consts → bound_const_of k ≡ None → IsVariable (fill f (kind_shape k)) → ⊥
+pub const_other : (f : Meaning) (k : Kind) → kind_table k ≡ terms_of.Consts → bound_const_of k ≡ None → IsVariable (fill f (kind_shape k)) → ⊥
 const_other f (kind.Ty k) t h = absurd (cc)
 const_other f (kind.Const k) t h = unbound-other (fill f (const_kind_shape k)) (free-unbound f const_sort (relabelled const_label (const_form k)) (free-relabelled const_label (const_form k) (free_const k h)))
 const_other f (kind.Pat k) t h = absurd (cc)

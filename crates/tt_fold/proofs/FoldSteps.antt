@@ -4,28 +4,26 @@ use Rattle.std.proofs.Common.{List as Listed}
 use Rattle.std.proofs.lemmas.Result.{MatchResult-weaker}
 use Rattle.tt_index.specs.declared.refusal.Refusal.{Refusal}
 use Rattle.tt_index.specs.declared.refusal.Refusal.TheVariants.{Memory, TableFull, GreatestIndex, NotAClause}
-use Rattle.tt_kinds.specs.Parts.{node_table, node_number, sort_list_table, list_sort, list_table, list_number}
-use Rattle.tt_kinds.specs.Kinds.{kind_shape, kind_table, node_shape, list_shape, region_shape, child_shapes}
+use Rattle.tt_kinds.specs.TermTable.{term_table}
+use Rattle.tt_kinds.specs.Kinds.{kind_shape, kind_table, handle_shape, region_shape, child_shapes}
 use Rattle.tt_kinds.specs.Kinds.{parts_shapes}
 use Rattle.tt_kinds.specs.Shape.{fill, HasParts, IsTooDeep}
 use Rattle.tt_kinds.specs.Handle.{BoundVarKinds}
 use Rattle.tt_kinds.specs.declared.region_kind.RegionKind.{RegionKind}
-use Rattle.tt_kinds.specs.declared.parts.Node.{Node}
-use Rattle.tt_kinds.specs.declared.parts.List.{List}
-use Rattle.tt_kinds.specs.declared.parts.ListSort.{ListSort}
+use Rattle.tt_kinds.specs.declared.handle.AnyHandle.{AnyHandle}
+use Rattle.tt_kinds.specs.declared.table.TermTable.{TermTable}
 use Rattle.tt_kinds.specs.declared.parts.Child.{Child}
 use Rattle.tt_kinds.specs.declared.parts.Parts.{Parts}
 use Rattle.tt_kinds.specs.declared.parts.Kind.{Kind}
 use Rattle.tt_kinds.specs.declared.parts.Kind.TheVariants as kind
 use Rattle.tt_interner.specs.Rows.{Row, row_table, row_shape, kind_row, size, meaning}
 use Rattle.tt_interner.specs.Stored.{Terms, Extends, IsCause, IsUnbuilt}
-use Rattle.tt_visit.specs.Root.{root, table_root}
-use Rattle.tt_visit.proofs.VisitSteps.{root-meaning, root-region}
+use Rattle.tt_visit.proofs.VisitSteps.{root-region}
 use Rattle.tt_fold.specs.Walk.{Errors, ChildFails, any_trees, IsRegion, Hooks, WalksAll, WalksUnder, in_open, in_binder}
 use Rattle.tt_fold.specs.Walk.{FailsAll, FailsUnder, in_open_failed, in_under_failed, in_leave_failed}
 use Rattle.tt_fold.specs.Counts.{Standing, stands}
 use Rattle.tt_fold.specs.Steps.{Folds, IsPartOf, tree_in, HasVars, vars_in}
-use Rattle.tt_fold.specs.Parts.{ArePartsOf, node_tree, list_tree, child_trees, parts_trees, IsNodeFor, IsChildFor}
+use Rattle.tt_fold.specs.Parts.{ArePartsOf, handle_tree, child_trees, parts_trees, IsStoredFor, IsChildFor}
 use Rattle.tt_fold.specs.Parts.{ArePartsFor, binder_in}
 use Rattle.tt_interner.proofs.Growth.{Extends-trans, AreParts-grows, fill_all-grows}
 use Rattle.tt_fold.proofs.PartLaws.{is_part, in_range, stored_tree, append_parts, right_parts, append_trees, vars-grow}
@@ -37,15 +35,11 @@ pub region-is : (rows : Listed Row) (r : RegionKind) → IsRegion (tree_in rows 
 region-is rows r = root-region (meaning rows) r
 
 -- what a stored term is
-pub node_is_kind : (rows : Listed Row) (n : Node) (k : Kind) → meaning rows (node_table n) (node_number n) ≡ fill (meaning rows) (kind_shape k) → node_tree rows n ≡ tree_in rows (kind_shape k)
-node_is_kind rows n k h = stored_tree rows (node_table n) (node_number n) ∙ h
-
--- what a stored term is to a hook
-pub node_root : (rows : Listed Row) (n : Node) → IsPartOf rows (node_shape n) → root (node_tree rows n) ≡ table_root (node_table n)
-node_root rows n h = rw (stored_tree rows (node_table n) (node_number n)) (root-meaning rows (node_table n) (node_number n) (in_range rows (node_table n) (node_number n) h))
+pub stored_is_kind : (rows : Listed Row) (h : AnyHandle) (k : Kind) → meaning rows (term_table h.table) h.number ≡ fill (meaning rows) (kind_shape k) → handle_tree rows h ≡ tree_in rows (kind_shape k)
+stored_is_kind rows h k is = stored_tree rows (term_table h.table) h.number ∙ is
 
 -- a term that was stored
-kind_row-table : (k : Kind) → row_table (kind_row k) ≡ kind_table k
+kind_row-table : (k : Kind) → row_table (kind_row k) ≡ term_table (kind_table k)
 kind_row-table (kind.Ty k) = refl
 kind_row-table (kind.Const k) = refl
 kind_row-table (kind.Pat k) = refl
@@ -60,16 +54,16 @@ kind_row-shape (kind.Predicate k) = refl
 kind_row-shape (kind.Existential k) = refl
 
 -- a handle that is in range for a kind may be the result of a term, if the kind and the term are of one table
-pub stored_node : (rows : Listed Row) (n u : Node) (k : Kind) → node_number u < size rows (row_table (kind_row k)) → node_table u ≡ kind_table k → kind_table k ≡ node_table n → IsNodeFor n rows u
-stored_node rows n u k h t like =
-    record { owned = is_part rows (node_table u) (node_number u) (rw t (rw (kind_row-table k) at h)); like = t ∙ like }
+pub stored_term : (rows : Listed Row) (h u : AnyHandle) (k : Kind) → u.number < size rows (row_table (kind_row k)) → u.table ≡ kind_table k → kind_table k ≡ h.table → IsStoredFor h rows u
+stored_term rows h u k lt t like =
+    record { owned = is_part rows (term_table u.table) u.number (rw t (rw (kind_row-table k) at lt)); like = t ∙ like }
 
 -- a handle that means the row of a kind has the kind's tree
-pub stored_node_tree : (rows rows1 : Listed Row) (u : Node) (k : Kind) → meaning rows1 (row_table (kind_row k)) (node_number u) ≡ fill (meaning rows) (row_shape (kind_row k)) → node_table u ≡ kind_table k
-    → node_tree rows1 u ≡ tree_in rows (kind_shape k)
-stored_node_tree rows rows1 u k h t =
+pub stored_term_tree : (rows rows1 : Listed Row) (u : AnyHandle) (k : Kind) → meaning rows1 (row_table (kind_row k)) u.number ≡ fill (meaning rows) (row_shape (kind_row k)) → u.table ≡ kind_table k
+    → handle_tree rows1 u ≡ tree_in rows (kind_shape k)
+stored_term_tree rows rows1 u k h t =
     let m = rw (kind_row-table k, kind_row-shape k) at h in
-    stored_tree rows1 (node_table u) (node_number u) ∙ ap (λ x. meaning rows1 x (node_number u)) t ∙ m
+    stored_tree rows1 (term_table u.table) u.number ∙ ap (λ x. meaning rows1 (term_table x) u.number) t ∙ m
 
 -- why a term was not stored
 pub not_stored : (terms : Terms) (k : Kind) (r : Refusal) → HasParts (size terms.rows) (kind_shape k) → (IsTooDeep (kind_shape k) → ⊥) → IsCause terms (kind_row k) r → IsUnbuilt terms (tree_in terms.rows (kind_shape k)) r
@@ -85,12 +79,12 @@ not_stored terms k GreatestIndex parts shallow h = absurd (shallow (rw (kind_row
 not_stored terms k _ parts shallow h = absurd h
 
 -- a list that was stored
-pub stored_list : (rows : Listed Row) (u : List) (sort : ListSort) → list_sort u ≡ sort → list_number u < size rows (sort_list_table sort) → IsPartOf rows (list_shape u)
-stored_list rows u sort same h = is_part rows (list_table u) (list_number u) (rw same h)
+pub stored_list : (rows : Listed Row) (u : AnyHandle) (l : TermTable) → u.table ≡ l → u.number < size rows (term_table l) → IsPartOf rows (handle_shape u)
+stored_list rows u l same h = is_part rows (term_table u.table) u.number (rw same h)
 
--- the tree of a list is what its number means in the table of the lists of its sort
-pub stored_list_tree : (rows : Listed Row) (u : List) (sort : ListSort) → list_sort u ≡ sort → list_tree rows u ≡ meaning rows (sort_list_table sort) (list_number u)
-stored_list_tree rows u sort same = stored_tree rows (list_table u) (list_number u) ∙ ap (λ x. meaning rows (sort_list_table x) (list_number u)) same
+-- the tree of a list is what its number means in its table
+pub stored_list_tree : (rows : Listed Row) (u : AnyHandle) (l : TermTable) → u.table ≡ l → handle_tree rows u ≡ meaning rows (term_table l) u.number
+stored_list_tree rows u l same = stored_tree rows (term_table u.table) u.number ∙ ap (λ x. meaning rows (term_table x) u.number) same
 
 -- if a refusal is `NotAClause`, an error that it gives is an error that `NotAClause` gives
 pub gives_no_clause : {E : Type 0} (gives : Refusal → E → Type 0) (r : Refusal) (e : E) → r ≡ NotAClause → gives r e → gives NotAClause e

@@ -1,22 +1,22 @@
 -- Frames among more rows, and the children that are left in them.
 use Rattle.std.proofs.Common.{◌≡◌, ℕ, zero, suc, ◌+◌, ◌-◌, ◌^◌, ◌<◌, ◌≤◌, [], ◌∷◌, ◌++◌, length, drop, slice_get, get_or}
-use Rattle.std.proofs.Common.{All, Option, Some, None, refl, ap, sym, ◌∙◌, arith}
+use Rattle.std.proofs.Common.{All, Some, refl, ap, sym, ◌∙◌, arith}
+use Rattle.std.specs.Prelude.{Bool, true, false, cond, IsTrue}
 use Rattle.std.proofs.Common.{List as Listed}
+use Rattle.std.proofs.lemmas.Bool.{false≢true}
 use Rattle.std.proofs.lemmas.List.{drop_more, length-drop}
 use Rattle.std.proofs.Math.ListN.{drop_of_length-le}
 use Rattle.std.proofs.lemmas.Option.{slice_get_within, get_or_from_slice_get, same_Some, none-some}
 use Rattle.tt_kinds.specs.Label.{Label}
 use Rattle.tt_kinds.specs.Tree.{also, none}
-use Rattle.tt_kinds.specs.Parts.{node_table, node_number, list_table, list_number, list_sort, child_sort, IsItem}
+use Rattle.tt_kinds.specs.Parts.{child_sort, IsItem}
+use Rattle.tt_kinds.specs.TermTable.{has_items, term_table}
 use Rattle.tt_kinds.specs.Shape.{append}
 use Rattle.tt_kinds.specs.Kinds.{Form, param, bound, plain, under, form_binder, form_parts, kind_form, kind_sort}
-use Rattle.tt_kinds.specs.Kinds.{kind_shape, node_shape, list_shape, child_shapes, parts_shapes, children_shapes}
+use Rattle.tt_kinds.specs.Kinds.{kind_shape, handle_shape, child_shapes, parts_shapes, children_shapes}
 use Rattle.tt_kinds.specs.declared.parts.Child.{Child}
 use Rattle.tt_kinds.specs.declared.parts.Child.TheVariants as child
-use Rattle.tt_kinds.specs.declared.parts.List.{List}
-use Rattle.tt_kinds.specs.declared.parts.ListSort.{ListSort}
-use Rattle.tt_kinds.specs.declared.parts.ListSort.TheVariants as sort
-use Rattle.tt_kinds.specs.declared.parts.Node.{Node}
+use Rattle.tt_kinds.specs.declared.handle.AnyHandle.{AnyHandle}
 use Rattle.tt_kinds.specs.declared.parts.Parts.{Parts}
 use Rattle.tt_interner.specs.Rows.{Row, Grows}
 use Rattle.tt_interner.specs.Children.{children_at}
@@ -25,12 +25,11 @@ use Rattle.tt_interner.proofs.Growth.{IsPart-grows, AreParts-grows, HasParts-gro
 use Rattle.tt_interner.proofs.Growth.{children_at-grows, stored_kind-grows}
 use Rattle.tt_visit.specs.Frames.{present}
 use Rattle.tt_fold.specs.Steps.{IsPartOf}
-use Rattle.tt_fold.specs.Parts.{ArePartsOf, HasBinder, child_trees, children_trees, trees_in}
+use Rattle.tt_fold.specs.Parts.{ArePartsOf, HasBinder, child_trees, children_trees, handle_tree, trees_in}
 use Rattle.tt_fold.specs.Stack.{joined_trees}
 use Rattle.tt_fold.specs.Stack as outline
-use Rattle.tt_fold.specs.Items.{child_shape, child_tree, child_list, child_node, IsWhole}
-use Rattle.tt_fold.specs.Going.{form_outline, outline_by, outline_of, term_parts_at, walked_parts}
-use Rattle.tt_fold.specs.Going.{children_by, children_in, absent_among, IsMadeOf, last_of}
+use Rattle.tt_fold.specs.Going.{form_outline, outline_of, term_parts_at, walked_parts}
+use Rattle.tt_fold.specs.Going.{children_in, absent_among, IsMadeOf, last_of}
 use Rattle.tt_fold.specs.Going.{IsFoldFrame, FitsList, AreAlike, Holds, left_of, BegunFrame, frames_of, context_of}
 use Rattle.tt_fold.specs.Going.{contexts}
 use Rattle.tt_fold.specs.Going.{AreBelow, work_all, frame_work, frames_work}
@@ -38,40 +37,6 @@ use Rattle.tt_fold.specs.declared.stack.Frame.{Frame}
 use Rattle.tt_fold.proofs.PartLaws.{one_tree, no_trees, append_trees, append_parts, right_parts, left_parts}
 use Rattle.tt_fold.proofs.PartLaws.{children-append, children-one, in_range, vars-grow}
 use Rattle.tt_fold.proofs.FormLaws.{KeepsLabels, form-labels, form-parts, form-binder, item-fits}
-
--- a child that is there
-pub whole-part : (rows : Listed Row) (c : Child) → IsWhole c → ArePartsOf rows (child_shapes c) → IsPartOf rows (child_shape c)
-whole-part rows child.Absent is h = absurd is
-whole-part rows (child.Region r) is h = absurd is
-whole-part rows (child.Node n) is h = h.0
-whole-part rows (child.List l) is h = h.0
-
--- a child that is a term or a list is in range if its handle is
-pub part-whole : (rows : Listed Row) (c : Child) → IsWhole c → IsPartOf rows (child_shape c) → ArePartsOf rows (child_shapes c)
-part-whole rows child.Absent is h = absurd is
-part-whole rows (child.Region r) is h = absurd is
-part-whole rows (child.Node n) is h = (h, tt)
-part-whole rows (child.List l) is h = (h, tt)
-
--- a child that is a term or a list has exactly one tree
-pub whole-tree : (rows : Listed Row) (c : Child) → IsWhole c → child_trees rows c ≡ also (child_tree rows c) none
-whole-tree rows child.Absent is = absurd is
-whole-tree rows (child.Region r) is = absurd is
-whole-tree rows (child.Node n) is = one_tree rows (node_shape n)
-whole-tree rows (child.List l) is = one_tree rows (list_shape l)
-
--- a child of the same sort as a term or a list is a term or a list itself
-pub like-whole : (y c : Child) → child_sort y ≡ child_sort c → IsWhole c → IsWhole y
-like-whole y child.Absent e is = absurd is
-like-whole y (child.Region r) e is = absurd is
-like-whole child.Absent (child.Node n) e is = (cc)
-like-whole (child.Region r) (child.Node n) e is = (cc)
-like-whole (child.Node m) (child.Node n) e is = tt
-like-whole (child.List l) (child.Node n) e is = tt
-like-whole child.Absent (child.List m) e is = (cc)
-like-whole (child.Region r) (child.List m) e is = (cc)
-like-whole (child.Node n) (child.List m) e is = tt
-like-whole (child.List l) (child.List m) e is = tt
 
 -- lists of children
 pub last_trees : (rows : Listed Row) (cs : Listed Child) (c : Child) → children_trees rows (cs ++ c ∷ []) ≡ joined_trees (children_trees rows cs) (child_trees rows c)
@@ -86,14 +51,12 @@ last_parts rows cs c h k = rw (children-append cs (c ∷ []), children-one c) (a
 present_shapes : (c : Child) → children_shapes (present c) ≡ child_shapes c
 present_shapes child.Absent = refl
 present_shapes (child.Region r) = refl
-present_shapes (child.Node n) = refl
-present_shapes (child.List l) = refl
+present_shapes (child.Stored h) = refl
 
 present_few : (c : Child) → length (present c) ≤ 1
 present_few child.Absent = omega arith
 present_few (child.Region r) = omega arith
-present_few (child.Node n) = omega arith
-present_few (child.List l) = omega arith
+present_few (child.Stored h) = omega arith
 
 -- the shapes of the walked parts of a term, taken as a list of children, are the shapes of its parts
 pub walked_shapes : (p : Parts) → children_shapes (walked_parts p) ≡ parts_shapes p
@@ -153,41 +116,35 @@ alike_all P (v ∷ vs) (c ∷ cs) f h a = λ k d lt. elim k as (λ j. j < length
 pub last_count : {n : ℕ} (vs : Listed Child) → n ≤ length vs → length (last_of n vs) ≡ n
 last_count {n} vs full = omega (arith, length-drop (length vs - n) vs, full)
 
--- how many children a frame has
-pub counted : (rows : Listed Row) (n : Node) (count : ℕ) (l : Option List) → IsMadeOf rows n count l → count ≡ length (children_by rows n l)
-counted rows n count (Some l) h = h.counted
-counted rows n count None h = h.counted
+-- the children of a list, or the walked parts of a term
+abbrev pub children_by : Listed Row → AnyHandle → Bool → Listed Child
+children_by rows h b = cond b (children_at rows h) (walked_parts (term_parts_at rows h))
 
-counted-fits : (rows : Listed Row) (n : Node) (count : ℕ) (l : Option List) → IsMadeOf rows n count l → count < 2 ^ 64
-counted-fits rows n count (Some l) h = h.fits
-counted-fits rows n count None h = omega (arith, h.counted, walked_few (term_parts_at rows n))
+-- how many children a frame has
+pub counted : (rows : Listed Row) (h : AnyHandle) (count : ℕ) (b : Bool) → IsMadeOf rows h count b → count ≡ length (children_by rows h b)
+counted rows h count true m = m.counted
+counted rows h count false m = m.counted
+
+counted-fits : (rows : Listed Row) (h : AnyHandle) (count : ℕ) (b : Bool) → IsMadeOf rows h count b → count < 2 ^ 64
+counted-fits rows h count true m = m.fits
+counted-fits rows h count false m = omega (arith, m.counted, walked_few (term_parts_at rows h))
 
 -- absent children are few
 no_absent : (P : Child → Type 0) (cs : Listed Child) → (P child.Absent → ⊥) → All P cs → absent_among cs ≡ 0
 no_absent P [] never a = refl
 no_absent P (child.Absent ∷ cs) never a = absurd (never (a 0 child.Absent (omega arith)))
 no_absent P (child.Region r ∷ cs) never a = no_absent P cs never (λ i e lt. a (suc i) e (omega (arith, lt)))
-no_absent P (child.Node n ∷ cs) never a = no_absent P cs never (λ i e lt. a (suc i) e (omega (arith, lt)))
-no_absent P (child.List l ∷ cs) never a = no_absent P cs never (λ i e lt. a (suc i) e (omega (arith, lt)))
+no_absent P (child.Stored h ∷ cs) never a = no_absent P cs never (λ i e lt. a (suc i) e (omega (arith, lt)))
 
 absent_length : (cs : Listed Child) → absent_among cs ≤ length cs
 absent_length [] = omega arith
 absent_length (child.Absent ∷ cs) = omega (arith, absent_length cs)
 absent_length (child.Region r ∷ cs) = omega (arith, absent_length cs)
-absent_length (child.Node n ∷ cs) = omega (arith, absent_length cs)
-absent_length (child.List l ∷ cs) = omega (arith, absent_length cs)
+absent_length (child.Stored h ∷ cs) = omega (arith, absent_length cs)
 
-no_item : (s : ListSort) → IsItem s (child_sort child.Absent) → ⊥
-no_item sort.Tys h = h
-no_item sort.Consts h = h
-no_item sort.Args h = h
-no_item sort.Pats h = h
-no_item sort.Existentials h = h
-no_item sort.Clauses h = h
-
-pub few_absent : (rows : Listed Row) (n : Node) (count : ℕ) (l : Option List) → IsMadeOf rows n count l → absent_among (children_by rows n l) ≤ 2
-few_absent rows n count (Some l) h = omega (arith, no_absent (λ c. IsItem (list_sort l) (child_sort c)) (children_at rows l) (no_item (list_sort l)) h.fit)
-few_absent rows n count None h = omega (arith, absent_length (children_by rows n None), walked_few (term_parts_at rows n))
+pub few_absent : (rows : Listed Row) (h : AnyHandle) (count : ℕ) (b : Bool) → IsMadeOf rows h count b → absent_among (children_by rows h b) ≤ 2
+few_absent rows h count true m = omega (arith, no_absent (λ c. IsItem h.table (child_sort c)) (children_at rows h) (λ bad. bad) m.fit)
+few_absent rows h count false m = omega (arith, absent_length (children_by rows h false), walked_few (term_parts_at rows h))
 
 module _ {old new : Listed Row} (g : Grows old new) where
   -- when rows are added, a form whose labels and binder are in range keeps its outline
@@ -197,91 +154,90 @@ module _ {old new : Listed Row} (g : Grows old new) where
   form_outline-grows (plain l p) k b = ap outline.plain (sym k.same)
   form_outline-grows (under l vars m p) k b = rw (k.0.same, k.1.same, vars-grow g vars b) refl
 
-  outline_by-grows : (n : Node) (count : ℕ) (l : Option List) → IsMadeOf old n count l → outline_by new n l ≡ outline_by old n l
-  outline_by-grows n count (Some l) h = refl
-  outline_by-grows n count None h =
-      let f = kind_form (stored_kind old n) in
-      ap (λ k. form_outline new (kind_form k)) (stored_kind-grows old new g n h.in_range)
-      ∙ form_outline-grows f (form-labels old new g (kind_sort (stored_kind old n)) f h.named) (form-binder old (kind_sort (stored_kind old n)) f h.named)
+  outline_by-grows : (h : AnyHandle) (count : ℕ) (b : Bool) → IsMadeOf old h count b
+      → cond b (outline.items h.table) (form_outline new (kind_form (stored_kind new h))) ≡ cond b (outline.items h.table) (form_outline old (kind_form (stored_kind old h)))
+  outline_by-grows h count true m = refl
+  outline_by-grows h count false m =
+      let f = kind_form (stored_kind old h) in
+      ap (λ k. form_outline new (kind_form k)) (stored_kind-grows old new g h m.in_range)
+      ∙ form_outline-grows f (form-labels old new g (kind_sort (stored_kind old h)) f m.named) (form-binder old (kind_sort (stored_kind old h)) f m.named)
 
-  children_by-grows : (n : Node) (count : ℕ) (l : Option List) → IsMadeOf old n count l → children_by new n l ≡ children_by old n l
-  children_by-grows n count (Some l) h = children_at-grows old new g l h.in_range
-  children_by-grows n count None h =
-      ap (λ k. walked_parts (form_parts (kind_form k))) (stored_kind-grows old new g n h.in_range)
+  children_by-grows : (h : AnyHandle) (count : ℕ) (b : Bool) → IsMadeOf old h count b → children_by new h b ≡ children_by old h b
+  children_by-grows h count true m = children_at-grows old new g h m.in_range
+  children_by-grows h count false m =
+      ap (λ k. walked_parts (form_parts (kind_form k))) (stored_kind-grows old new g h m.in_range)
 
-  made-grows : (n : Node) (count : ℕ) (l : Option List) → IsMadeOf old n count l → IsMadeOf new n count l
-  made-grows n count (Some l) h =
-      let same = children_at-grows old new g l h.in_range in
+  made-grows : (h : AnyHandle) (count : ℕ) (b : Bool) → IsMadeOf old h count b → IsMadeOf new h count b
+  made-grows h count true m =
+      let same = children_at-grows old new g h m.in_range in
       record {
-        in_range = in_range new (list_table l) (list_number l) (IsPart-grows old new g (list_shape l) h.in_range);
-        parts = rw same (AreParts-grows old new g (children_shapes (children_at old l)) h.parts);
-        fit = rw same h.fit;
-        counted = rw same h.counted;
-        fits = h.fits;
+        in_range = in_range new (term_table h.table) h.number (IsPart-grows old new g (handle_shape h) m.in_range);
+        parts = rw same (AreParts-grows old new g (children_shapes (children_at old h)) m.parts);
+        fit = rw same m.fit;
+        counted = rw same m.counted;
+        fits = m.fits;
       }
-  made-grows n count None h =
-      let same = stored_kind-grows old new g n h.in_range in
+  made-grows h count false m =
+      let same = stored_kind-grows old new g h m.in_range in
       record {
-        in_range = in_range new (node_table n) (node_number n) (IsPart-grows old new g (node_shape n) h.in_range);
-        has_kind = h.has_kind;
-        table = rw same h.table;
-        named = rw same (HasParts-grows old new g (kind_shape (stored_kind old n)) h.named);
-        inner = rw same h.inner;
-        counted = rw same h.counted;
+        in_range = in_range new (term_table h.table) h.number (IsPart-grows old new g (handle_shape h) m.in_range);
+        table = rw same m.table;
+        named = rw same (HasParts-grows old new g (kind_shape (stored_kind old h)) m.named);
+        inner = rw same m.inner;
+        counted = rw same m.counted;
       }
 
-pub children_by-parts : (rows : Listed Row) (n : Node) (count : ℕ) (l : Option List) → IsMadeOf rows n count l → ArePartsOf rows (children_shapes (children_by rows n l))
-children_by-parts rows n count (Some l) h = h.parts
-children_by-parts rows n count None h =
-    let k = stored_kind rows n in
-    rw (walked_shapes (form_parts (kind_form k))) (form-parts rows (kind_sort k) (kind_form k) h.named)
+pub children_by-parts : (rows : Listed Row) (h : AnyHandle) (count : ℕ) (b : Bool) → IsMadeOf rows h count b → ArePartsOf rows (children_shapes (children_by rows h b))
+children_by-parts rows h count true m = m.parts
+children_by-parts rows h count false m =
+    let k = stored_kind rows h in
+    rw (walked_shapes (form_parts (kind_form k))) (form-parts rows (kind_sort k) (kind_form k) m.named)
 
 -- the handles in the children of a frame name rows
 pub frame-parts : {rows : Listed Row} {f : Frame} → IsFoldFrame rows f → ArePartsOf rows (children_shapes (children_in rows f))
-frame-parts {f} h = children_by-parts _ (child_node f.item) f.count (child_list f.item) h.made
+frame-parts {f} h = children_by-parts _ f.handle f.count (has_items f.handle.table) h.made
 
 -- a value of the sort of a frame's child
-fits_by : (rows : Listed Row) (n : Node) (count : ℕ) (l : Option List) (i : ℕ) (c y : Child)
-    → IsMadeOf rows n count l → slice_get (children_by rows n l) i ≡ Some c → child_sort y ≡ child_sort c → FitsList l y
-fits_by rows n count (Some l) i c y h e s = rw s (item-fits (λ x. IsItem (list_sort l) (child_sort x)) (children_at rows l) i c e h.fit)
-fits_by rows n count None i c y h e s = tt
+fits_by : (rows : Listed Row) (h : AnyHandle) (count : ℕ) (b : Bool) (i : ℕ) (c y : Child)
+    → IsMadeOf rows h count b → slice_get (children_by rows h b) i ≡ Some c → child_sort y ≡ child_sort c → IsTrue b → IsItem h.table (child_sort y)
+fits_by rows h count true i c y m e s is = rw s (item-fits (λ x. IsItem h.table (child_sort x)) (children_at rows h) i c e m.fit)
+fits_by rows h count false i c y m e s is = absurd (false≢true is)
 
 -- a value of the sort of a frame's child may be an item of the frame's list, if the frame is a list's
-pub frame_fits : {rows : Listed Row} {f : Frame} (i : ℕ) (c y : Child) → IsFoldFrame rows f → slice_get (children_in rows f) i ≡ Some c → child_sort y ≡ child_sort c → FitsList (child_list f.item) y
-frame_fits {f} i c y h e s = fits_by _ (child_node f.item) f.count (child_list f.item) i c y h.made e s
+pub frame_fits : {rows : Listed Row} {f : Frame} (i : ℕ) (c y : Child) → IsFoldFrame rows f → slice_get (children_in rows f) i ≡ Some c → child_sort y ≡ child_sort c → FitsList f.handle y
+frame_fits {f} i c y h e s = fits_by _ f.handle f.count (has_items f.handle.table) i c y h.made e s
 
 -- the count of a frame is the number of its children
 pub frame-count : {rows : Listed Row} {f : Frame} → IsFoldFrame rows f → f.count ≡ length (children_in rows f)
-frame-count {f} h = counted _ (child_node f.item) f.count (child_list f.item) h.made
+frame-count {f} h = counted _ f.handle f.count (has_items f.handle.table) h.made
 
 -- the count of a frame fits into 64 bits
 pub frame-fits : {rows : Listed Row} {f : Frame} → IsFoldFrame rows f → f.count < 2 ^ 64
-frame-fits {f} h = counted-fits _ (child_node f.item) f.count (child_list f.item) h.made
+frame-fits {f} h = counted-fits _ f.handle f.count (has_items f.handle.table) h.made
 
 -- at most two children of a frame are absent
 pub frame-absent : {rows : Listed Row} {f : Frame} → IsFoldFrame rows f → absent_among (children_in rows f) ≤ 2
-frame-absent {f} h = few_absent _ (child_node f.item) f.count (child_list f.item) h.made
+frame-absent {f} h = few_absent _ f.handle f.count (has_items f.handle.table) h.made
 
 module _ {old new : Listed Row} (g : Grows old new) where
   -- when rows are added, a frame's term or list keeps its tree
-  pub item_tree-grows : {f : Frame} → IsFoldFrame old f → child_tree new f.item ≡ child_tree old f.item
-  item_tree-grows {f} h = fill-grows old new g (child_shape f.item) (whole-part _ f.item h.is h.part)
+  pub item_tree-grows : {f : Frame} → IsFoldFrame old f → handle_tree new f.handle ≡ handle_tree old f.handle
+  item_tree-grows {f} h = fill-grows old new g (handle_shape f.handle) h.part
 
   -- when rows are added, a frame's term or list keeps its outline
-  pub outline-grows : {f : Frame} → IsFoldFrame old f → outline_of new f.item ≡ outline_of old f.item
-  outline-grows {f} h = outline_by-grows g (child_node f.item) f.count (child_list f.item) h.made
+  pub outline-grows : {f : Frame} → IsFoldFrame old f → outline_of new f.handle ≡ outline_of old f.handle
+  outline-grows {f} h = outline_by-grows g f.handle f.count (has_items f.handle.table) h.made
 
   -- when rows are added, a frame's term or list keeps its children
   pub children-grow : {f : Frame} → IsFoldFrame old f → children_in new f ≡ children_in old f
-  children-grow {f} h = children_by-grows g (child_node f.item) f.count (child_list f.item) h.made
+  children-grow {f} h = children_by-grows g f.handle f.count (has_items f.handle.table) h.made
 
   -- when rows are added, a frame of the rows is still one
   pub frame-grows : {f : Frame} → IsFoldFrame old f → IsFoldFrame new f
   frame-grows {f} h = record {
-    is = h.is;
-    part = AreParts-grows old new g (child_shapes f.item) h.part;
+    part = IsPart-grows old new g (handle_shape f.handle) h.part;
     tree = rw (item_tree-grows h, outline-grows h, children-grow h, fill_all-grows old new g (children_shapes (children_in old f)) (frame-parts h)) h.tree;
-    made = made-grows g (child_node f.item) f.count (child_list f.item) h.made;
+    made = made-grows g f.handle f.count (has_items f.handle.table) h.made;
   }
 
   -- when rows are added, children in range keep their trees
@@ -304,20 +260,20 @@ module _ {old new : Listed Row} (g : Grows old new) where
   }
 
   -- when rows are added, the frames around a term or a list are still around it
-  pub below-grows : (root item : Child) (ps : Listed BegunFrame) → AreBelow old root item ps → AreBelow new root item ps
+  pub below-grows : (root item : AnyHandle) (ps : Listed BegunFrame) → AreBelow old root item ps → AreBelow new root item ps
   below-grows root item [] h = h
   below-grows root item (p ∷ ps) h = (
     record { holds = holds-grows h.0.holds; counted = h.0.counted; walked = rw (children-grow h.0.holds.frame) h.0.walked },
-    below-grows root p.frame.item ps h.1,
+    below-grows root p.frame.handle ps h.1,
   )
 
   context-grows : (p : BegunFrame) → Holds old p.frame p.values → context_of new p ≡ context_of old p
   context-grows p h = rw (item_tree-grows h.frame, outline-grows h.frame, values-grow p.values h.owned, left-grows h.frame) refl
 
   -- when rows are added, the frames around a term or a list keep their contexts
-  pub contexts-grow : (root item : Child) (ps : Listed BegunFrame) → AreBelow old root item ps → contexts new ps ≡ contexts old ps
+  pub contexts-grow : (root item : AnyHandle) (ps : Listed BegunFrame) → AreBelow old root item ps → contexts new ps ≡ contexts old ps
   contexts-grow root item [] h = refl
-  contexts-grow root item (p ∷ ps) h = rw (context-grows p h.0.holds, contexts-grow root p.frame.item ps h.1) refl
+  contexts-grow root item (p ∷ ps) h = rw (context-grows p h.0.holds, contexts-grow root p.frame.handle ps h.1) refl
 
   -- when rows are added, the work that is left in a frame stays the same
   pub frame_work-grows : {f : Frame} → IsFoldFrame old f → frame_work new f ≡ frame_work old f
@@ -331,11 +287,11 @@ frames_work-append rows [] f = omega arith
 frames_work-append rows (x ∷ fs) f = omega (arith, frames_work-append rows fs f)
 
 -- when rows are added, the work left in the frames around a term or a list stays the same
-pub frames_work-grows : {old new : Listed Row} → Grows old new → (root item : Child) (ps : Listed BegunFrame) → AreBelow old root item ps → frames_work new (frames_of ps) ≡ frames_work old (frames_of ps)
+pub frames_work-grows : {old new : Listed Row} → Grows old new → (root item : AnyHandle) (ps : Listed BegunFrame) → AreBelow old root item ps → frames_work new (frames_of ps) ≡ frames_work old (frames_of ps)
 frames_work-grows g root item [] h = refl
 frames_work-grows {old} {new} g root item (p ∷ ps) h =
     let a = frames_work-append new (frames_of ps) p.frame in
     let b = frames_work-append old (frames_of ps) p.frame in
-    let c = frames_work-grows g root p.frame.item ps h.1 in
+    let c = frames_work-grows g root p.frame.handle ps h.1 in
     let d = frame_work-grows g h.0.holds.frame in
     omega (arith, a, b, c, d)

@@ -8,6 +8,7 @@ mod FrameLaws
 mod GoingLaws
 mod ItemSteps
 pub mod FoldSteps
+mod ChildLaws
 mod ChildSteps
 mod ValueSteps
 mod BareLaws

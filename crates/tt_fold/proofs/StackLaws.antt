@@ -1,17 +1,19 @@
 -- Each turn of the walk, seen from what is left to do.
-use Rattle.std.proofs.Common.{◌≡◌, List, [], ◌∷◌, refl, ap, sym, ◌∙◌}
+use Rattle.std.proofs.Common.{◌≡◌, List, [], ◌∷◌, Bool, true, false, refl, ap, sym, ◌∙◌}
+use Rattle.std.specs.Prelude.{cond}
 use Rattle.tt_kinds.specs.Label.{Name, Sort, region_sort, type_sort, const_sort, Label, type_label, const_label}
 use Rattle.tt_kinds.specs.Label.{pattern_label, predicate_label, existential_label, clause_list_label, list_label}
 use Rattle.tt_kinds.specs.Label.{var_list_label, text_label, declaration_label, definition_label, record_label}
 use Rattle.tt_kinds.specs.Label.{error_label, clause_label}
-use Rattle.tt_kinds.specs.Tree.{Depth, Tree, Forest, none, also}
-use Rattle.tt_kinds.specs.declared.parts.ListSort.TheVariants as sort
+use Rattle.tt_kinds.specs.Tree.{Depth, Tree, Forest, none, also, term, node}
+use Rattle.tt_kinds.specs.TermTable.{is_clause_table, term_table}
+use Rattle.tt_kinds.specs.declared.table.TermTable.{TermTable}
 use Rattle.tt_visit.specs.Root.{root, sort_root, term_root, a_part}
-use Rattle.tt_fold.specs.Walk.{Hooks, Errors, HasUnwanted, Walks, descended, passed, rebuilt, at_node, at_binder}
-use Rattle.tt_fold.specs.Walk.{WalksInside, in_term, in_param, in_bound, WalksAll, done, Fails, descent_failed}
-use Rattle.tt_fold.specs.Walk.{passed_failed, inside_failed, after_failed, InsideFails, in_term_failed, not_built}
-use Rattle.tt_fold.specs.Walk.{FailsAll, here, no_clause, enter_failed, under_failed, leave_failed, node_failed}
-use Rattle.tt_fold.specs.Walk.{node_not_built}
+use Rattle.tt_fold.specs.Walk.{Hooks, Errors, any_trees, clause_trees, HasUnwanted, Walks, descended, passed, rebuilt}
+use Rattle.tt_fold.specs.Walk.{at_node, at_binder, WalksInside, in_term, in_param, in_bound, WalksAll, done, Fails}
+use Rattle.tt_fold.specs.Walk.{descent_failed, passed_failed, inside_failed, after_failed, InsideFails}
+use Rattle.tt_fold.specs.Walk.{in_term_failed, not_built, FailsAll, here, no_clause, enter_failed, under_failed}
+use Rattle.tt_fold.specs.Walk.{leave_failed, node_failed, node_not_built}
 use Rattle.tt_fold.specs.Stack.{joined_trees, Outline, plain, under, items, whole, wanted_by, TakesAny, binder_of, Asks}
 use Rattle.tt_fold.specs.Stack.{asks}
 use Rattle.tt_fold.specs.Stack.{passes, at_list, Opens, opens_bare, opens_binder, leaves_bare, leaves_binder, Begins}
@@ -52,31 +54,36 @@ no_sort_part const_sort e = cc
 term_no_part : {t : Tree Depth} (o : Outline) (ts : Forest Depth) → t ≡ whole o ts → (root t ≡ a_part → ⊥) → root (whole o ts) ≡ a_part → ⊥
 term_no_part o ts e h is = h (ap root e ∙ is)
 
+-- the tree of a list of a table, by whether it is one of clauses
+abbrev items_by : Bool → TermTable → Forest Depth → Tree Depth
+items_by b t ts = cond b (term clause_list_label ts) (node (list_label (term_table t)) ts)
+
 module _ {M E : Type 0} {H : Hooks M E} where
+  -- the walk of the items of a list of clauses, which is a term
+  items_contents : {ts us : Forest Depth} {s s' : M} (b : Bool) (t : TermTable)
+      → (root (items_by b t ts) ≡ a_part → ⊥) → WalksAll H s ts us s' → (HasUnwanted (cond b clause_trees any_trees) us → ⊥) → WalksInside H s (items_by b t ts) (items_by b t us) s'
+  items_contents true t is w fit = in_term w fit
+  items_contents false t is w fit = absurd (is refl)
+
+  -- the walk of any other list
+  items_walk : {ts us : Forest Depth} {s s' : M} (b : Bool) (t : TermTable) → root (items_by b t ts) ≡ a_part → WalksAll H s ts us s' → Walks H s (items_by b t ts) (items_by b t us) s'
+  items_walk true t is w = absurd (no_part clause_list_label is)
+  items_walk false t is w = at_node w (λ h. h)
+
   -- the walk of a term's contents
   pub walks_contents : {ts us : Forest Depth} {u : Tree Depth} {s s1 s2 s3 : M} (o : Outline)
       → TakesAny o → (root (whole o ts) ≡ a_part → ⊥) → Opens H (binder_of o) s s1 → WalksAll H s1 ts us s2 → Rebuilds H o us s2 u s3 → WalksInside H s (whole o ts) u s3
   walks_contents (plain l) any is opens_bare w (rebuilds fit leaves_bare) = in_term w (any-wanted _ _ any)
   walks_contents (under l vs m) any is (opens_binder enter) w (rebuilds fit (leaves_binder leave)) =
       in_term (WalksAll-one (at_binder enter (at_node w (any.1 _ _)) leave)) (any-wanted _ _ any.0)
-  walks_contents (items sort.Clauses) any is opens_bare w (rebuilds fit leaves_bare) = in_term w fit
-  walks_contents (items sort.Tys) any is opens_bare w r = absurd (is refl)
-  walks_contents (items sort.Consts) any is opens_bare w r = absurd (is refl)
-  walks_contents (items sort.Args) any is opens_bare w r = absurd (is refl)
-  walks_contents (items sort.Pats) any is opens_bare w r = absurd (is refl)
-  walks_contents (items sort.Existentials) any is opens_bare w r = absurd (is refl)
+  walks_contents (items t) any is opens_bare w (rebuilds fit leaves_bare) = items_contents (is_clause_table t) t is w fit
 
   -- the walk of a list's items
   walks_list : {ts us : Forest Depth} {u : Tree Depth} {s s1 s2 s3 : M} (o : Outline)
       → root (whole o ts) ≡ a_part → Opens H (binder_of o) s s1 → WalksAll H s1 ts us s2 → Rebuilds H o us s2 u s3 → Walks H s (whole o ts) u s3
   walks_list (plain l) is o w r = absurd (no_part l is)
   walks_list (under l vs m) is o w r = absurd (no_part l is)
-  walks_list (items sort.Clauses) is o w r = absurd (no_part clause_list_label is)
-  walks_list (items sort.Tys) is opens_bare w (rebuilds fit leaves_bare) = at_node w (λ h. h)
-  walks_list (items sort.Consts) is opens_bare w (rebuilds fit leaves_bare) = at_node w (λ h. h)
-  walks_list (items sort.Args) is opens_bare w (rebuilds fit leaves_bare) = at_node w (λ h. h)
-  walks_list (items sort.Pats) is opens_bare w (rebuilds fit leaves_bare) = at_node w (λ h. h)
-  walks_list (items sort.Existentials) is opens_bare w (rebuilds fit leaves_bare) = at_node w (λ h. h)
+  walks_list (items t) is opens_bare w (rebuilds fit leaves_bare) = items_walk (is_clause_table t) t is w
 
   -- the walk of a term or a list with its hooks
   walks_by : {t : Tree Depth} {ts us : Forest Depth} {u r : Tree Depth} {s s0 s1 s2 s3 s4 : M} {o : Outline}
@@ -137,17 +144,30 @@ module _ {M E : Type 0} {H : Hooks M E} where
   leaf_walks (at_list is) w f = absurd (inside_no_part w is)
 
 module _ {M E : Type 0} {H : Hooks M E} {errors : Errors E} where
+  -- the items of a list of clauses fail
+  items_contents_fail : {ts : Forest Depth} {e : E} {s s' : M} (b : Bool) (t : TermTable)
+      → (root (items_by b t ts) ≡ a_part → ⊥) → FailsAll H errors (cond b clause_trees any_trees) s ts e s' → InsideFails H errors s (items_by b t ts) e s'
+  items_contents_fail true t is f = in_term_failed f
+  items_contents_fail false t is f = absurd (is refl)
+
+  -- the items of any other list fail
+  items_fail : {ts : Forest Depth} {e : E} {s s' : M} (b : Bool) (t : TermTable)
+      → root (items_by b t ts) ≡ a_part → FailsAll H errors (cond b clause_trees any_trees) s ts e s' → Fails H errors s (items_by b t ts) e s'
+  items_fail true t is f = absurd (no_part clause_list_label is)
+  items_fail false t is f = node_failed f
+
+  -- the list of their results is not built
+  items_not_built : {ts us : Forest Depth} {e : E} {s s' : M} (b : Bool) (t : TermTable)
+      → root (items_by b t ts) ≡ a_part → WalksAll H s ts us s' → errors.unbuilt (items_by b t us) e → Fails H errors s (items_by b t ts) e s'
+  items_not_built true t is w u = absurd (no_part clause_list_label is)
+  items_not_built false t is w u = node_not_built w u
+
   -- the contents of a term fail
   contents_fail : {ts : Forest Depth} {e : E} {s s1 s' : M} (o : Outline)
       → TakesAny o → (root (whole o ts) ≡ a_part → ⊥) → Opens H (binder_of o) s s1 → FailsAll H errors (wanted_by o) s1 ts e s' → InsideFails H errors s (whole o ts) e s'
   contents_fail (plain l) any is opens_bare f = in_term_failed (rw any f)
   contents_fail (under l vs m) any is (opens_binder enter) f = in_term_failed (here (under_failed enter (node_failed f)))
-  contents_fail (items sort.Clauses) any is opens_bare f = in_term_failed f
-  contents_fail (items sort.Tys) any is opens_bare f = absurd (is refl)
-  contents_fail (items sort.Consts) any is opens_bare f = absurd (is refl)
-  contents_fail (items sort.Args) any is opens_bare f = absurd (is refl)
-  contents_fail (items sort.Pats) any is opens_bare f = absurd (is refl)
-  contents_fail (items sort.Existentials) any is opens_bare f = absurd (is refl)
+  contents_fail (items t) any is opens_bare f = items_contents_fail (is_clause_table t) t is f
 
   contents_not_built : {ts us : Forest Depth} {e : E} {s s1 s2 s' : M} (o : Outline)
       → TakesAny o → (root (whole o ts) ≡ a_part → ⊥) → Opens H (binder_of o) s s1 → WalksAll H s1 ts us s2 → RebuildFails H errors o us s2 e s' → InsideFails H errors s (whole o ts) e s'
@@ -168,22 +188,9 @@ module _ {M E : Type 0} {H : Hooks M E} {errors : Errors E} where
       → root (whole o ts) ≡ a_part → Opens H (binder_of o) s s1 → RestFails H errors o ts s1 e s' → Fails H errors s (whole o ts) e s'
   list_rest_fails (plain l) is o f = absurd (no_part l is)
   list_rest_fails (under l vs m) is o f = absurd (no_part l is)
-  list_rest_fails (items sort.Clauses) is o f = absurd (no_part clause_list_label is)
-  list_rest_fails (items sort.Tys) is opens_bare (in_children f) = node_failed f
-  list_rest_fails (items sort.Consts) is opens_bare (in_children f) = node_failed f
-  list_rest_fails (items sort.Args) is opens_bare (in_children f) = node_failed f
-  list_rest_fails (items sort.Pats) is opens_bare (in_children f) = node_failed f
-  list_rest_fails (items sort.Existentials) is opens_bare (in_children f) = node_failed f
-  list_rest_fails (items sort.Tys) is opens_bare (in_whole w (not_rebuilt fit leaves_bare b)) = node_not_built w b
-  list_rest_fails (items sort.Consts) is opens_bare (in_whole w (not_rebuilt fit leaves_bare b)) = node_not_built w b
-  list_rest_fails (items sort.Args) is opens_bare (in_whole w (not_rebuilt fit leaves_bare b)) = node_not_built w b
-  list_rest_fails (items sort.Pats) is opens_bare (in_whole w (not_rebuilt fit leaves_bare b)) = node_not_built w b
-  list_rest_fails (items sort.Existentials) is opens_bare (in_whole w (not_rebuilt fit leaves_bare b)) = node_not_built w b
-  list_rest_fails (items sort.Tys) is opens_bare (in_whole w (not_left x)) = elim x [ ]
-  list_rest_fails (items sort.Consts) is opens_bare (in_whole w (not_left x)) = elim x [ ]
-  list_rest_fails (items sort.Args) is opens_bare (in_whole w (not_left x)) = elim x [ ]
-  list_rest_fails (items sort.Pats) is opens_bare (in_whole w (not_left x)) = elim x [ ]
-  list_rest_fails (items sort.Existentials) is opens_bare (in_whole w (not_left x)) = elim x [ ]
+  list_rest_fails (items t) is opens_bare (in_children f) = items_fail (is_clause_table t) t is f
+  list_rest_fails (items t) is opens_bare (in_whole w (not_rebuilt fit leaves_bare b)) = items_not_built (is_clause_table t) t is w b
+  list_rest_fails (items t) is opens_bare (in_whole w (not_left x)) = elim x [ ]
 
   -- the walk of a term or a list with its hooks fails
   fails_by : {t : Tree Depth} {ts : Forest Depth} {e : E} {s s0 s1 s' : M} {o : Outline}

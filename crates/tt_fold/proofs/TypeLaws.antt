@@ -3,18 +3,19 @@ use Rattle.std.proofs.Common.{◌≡◌, ℕ, List, true, false, Result, Ok, Err
 use Rattle.std.proofs.lemmas.Bool.{true≢false}
 use Rattle.tt_kinds.specs.Tree.{Depth, Tree}
 use Rattle.tt_kinds.specs.Shape.{stored}
-use Rattle.tt_kinds.specs.Kinds.{ty_shape, node_shape}
+use Rattle.tt_kinds.specs.Kinds.{handle_shape, ty_shape}
+use Rattle.tt_kinds.specs.TermTable.{term_table}
 use Rattle.tt_kinds.specs.Handle.{Ty}
-use Rattle.tt_kinds.specs.declared.parts.Node.{Node}
-use Rattle.tt_kinds.specs.declared.parts.Node.TheVariants as node
+use Rattle.tt_kinds.specs.declared.handle.AnyHandle.{AnyHandle}
+use Rattle.tt_kinds.specs.declared.table.TermTable.{TermTable}
+use Rattle.tt_kinds.specs.declared.table.TermTable.TheVariants as terms_of
 use Rattle.tt_kinds.specs.declared.table.Table.{Table}
-use Rattle.tt_kinds.specs.declared.table.Table.TheVariants.{Types, Consts, Patterns, Predicates, Existentials}
-use Rattle.tt_kinds.specs.declared.table.Table.TheVariants.{ClauseLists}
+use Rattle.tt_kinds.specs.declared.table.Table.TheVariants.{Types}
 use Rattle.tt_interner.specs.Rows.{Row}
 use Rattle.tt_visit.specs.Types.{is_type_tree}
 use Rattle.tt_visit.proofs.TypeTrees.{is_types, stored-type}
 use Rattle.tt_fold.specs.Walk.{descend}
-use Rattle.tt_fold.specs.Parts.{node_tree}
+use Rattle.tt_fold.specs.Parts.{handle_tree}
 use Rattle.tt_fold.specs.Steps.{IsPartOf, OwnsStep, answer_of, tree_in}
 use Rattle.tt_fold.specs.Types.{TypeHooks}
 use Rattle.tt_fold.specs.declared.folder.Step.{Step}
@@ -28,14 +29,23 @@ part-type rows t n h = rw (stored_tree rows t n) (stored-type rows t n (in_range
 pub is-type : (rows : List Row) (x : Ty) → IsPartOf rows (ty_shape x) → is_type_tree (tree_in rows (ty_shape x)) ≡ true
 is-type rows x h = part-type rows Types x.number h
 
+-- the table of types is the one whose rows are types
+no-types : (l : TermTable) → (l ≡ terms_of.Types → ⊥) → is_types (term_table l) ≡ false
+no-types terms_of.Types other = absurd (other refl)
+no-types terms_of.Consts other = refl
+no-types terms_of.Patterns other = refl
+no-types terms_of.Predicates other = refl
+no-types terms_of.Existentials other = refl
+no-types terms_of.ClauseLists other = refl
+no-types terms_of.TypeLists other = refl
+no-types terms_of.ConstLists other = refl
+no-types terms_of.ArgLists other = refl
+no-types terms_of.PatternLists other = refl
+no-types terms_of.ExistentialLists other = refl
+
 -- and nothing else is
-pub no-type : (rows : List Row) (x : Node) → ((ty : Ty) → x ≡ node.Ty ty → ⊥) → IsPartOf rows (node_shape x) → is_type_tree (node_tree rows x) ≡ false
-no-type rows (node.Ty x) other h = absurd (other x refl)
-no-type rows (node.Const x) other h = part-type rows Consts x.number h
-no-type rows (node.Pat x) other h = part-type rows Patterns x.number h
-no-type rows (node.Predicate x) other h = part-type rows Predicates x.number h
-no-type rows (node.Existential x) other h = part-type rows Existentials x.number h
-no-type rows (node.Clauses x) other h = part-type rows ClauseLists x.number h
+pub no-type : (rows : List Row) (x : AnyHandle) → (x.table ≡ terms_of.Types → ⊥) → IsPartOf rows (handle_shape x) → is_type_tree (handle_tree rows x) ≡ false
+no-type rows x other h = part-type rows (term_table x.table) x.number h ∙ no-types x.table other
 
 -- the answer at a type, as one at a term
 pub answers-type : {M E : Type 0} (H : TypeHooks M E) (unbuilt : Tree Depth → E → Type 0) (rows : List Row) (m m1 : M) (t : Tree Depth) (r : Result (Step Ty) E)

@@ -7,9 +7,9 @@ use Rattle.tt_index.specs.declared.refusal.Refusal.{Refusal}
 use Rattle.tt_kinds.specs.Tree.{Depth, Tree}
 use Rattle.tt_kinds.specs.Count.{TypeAt}
 use Rattle.tt_kinds.specs.Kinds.{ty_shape}
-use Rattle.tt_kinds.specs.Handle.{Ty}
-use Rattle.tt_kinds.specs.declared.parts.Node.{Node}
-use Rattle.tt_kinds.specs.declared.parts.Node.TheVariants as node
+use Rattle.tt_kinds.specs.Handle.{Ty, any_handle}
+use Rattle.tt_kinds.specs.declared.handle.AnyHandle.{AnyHandle}
+use Rattle.tt_kinds.specs.declared.table.TermTable.TheVariants as terms_of
 use Rattle.indexmap.specs.IndexMap.{insert_entry}
 use Rattle.tt_interner.specs.Rows.{Row}
 use Rattle.tt_interner.specs.Stored.{Counters, Terms, Extends}
@@ -20,7 +20,7 @@ use Rattle.tt_fold.specs.Steps.{IsErrorOfUnbuilt, OwnsStep, answer_of, tree_in}
 use Rattle.tt_fold.specs.Memory.{memo_at, memos, place_of, same_place, type_at, OwnsMemos}
 use Rattle.tt_fold.specs.Places.{IsIn}
 use Rattle.tt_fold.specs.Remember.{Memo, State, places}
-use Rattle.tt_fold.specs.Parts.{node_tree}
+use Rattle.tt_fold.specs.Parts.{handle_tree}
 use Rattle.tt_fold.specs.Types.{TypeHooks, AnswersType}
 use Rattle.tt_fold.specs.TypesOnce.{IsMeaning, answered, Noted, recalling, steadily, CallsOnce, FailsOnce}
 use Rattle.tt_fold.specs.declared.folder.Step.{Step}
@@ -88,10 +88,10 @@ noted_type means H rows m c es fs before after is = record {
     ]
 
 -- the same of terms that are types
-pub noted_node : {M E S : Type 0} (means : List Row → S → M) (H : TypeHooks (Standing M) E) (rows : List Row) (m : M) (c : Counters) (es fs : List (Place × Ty)) (x y : Node) (before after : Ty)
-    → x ≡ node.Ty before → y ≡ node.Ty after → fs ≡ insert_entry same_place es (place_of before 0) after
-    → Noted means H (recalls rows m es c) (node_tree rows x) (node_tree rows y) (recalls rows m fs c)
-noted_node means H rows m c es fs x y before after is is_after put = rw (is, is_after) (noted_type means H rows m c es fs before after put)
+pub noted_stored : {M E S : Type 0} (means : List Row → S → M) (H : TypeHooks (Standing M) E) (rows : List Row) (m : M) (c : Counters) (es fs : List (Place × Ty)) (x y : AnyHandle) (before after : Ty)
+    → x ≡ any_handle terms_of.Types before → y ≡ any_handle terms_of.Types after → fs ≡ insert_entry same_place es (place_of before 0) after
+    → Noted means H (recalls rows m es c) (handle_tree rows x) (handle_tree rows y) (recalls rows m fs c)
+noted_stored means H rows m c es fs x y before after is is_after put = rw (is, is_after) (noted_type means H rows m c es fs before after put)
 
 -- the meaning of a folder's state is one
 pub its-meaning : {M S : Type 0} (means : List Row → S → M) (rows : List Row) (folder : S) → IsMeaning means (means rows folder)

@@ -1,9 +1,15 @@
 -- The folds of values that are not stored, from the same of their contents.
 use Rattle.std.proofs.Common.{◌≡◌, List, Result, Ok, Err, MatchResult}
 use Rattle.std.proofs.lemmas.Result.{MatchResult-weaker}
-use Rattle.tt_kinds.specs.Shape.{Shape, fill}
-use Rattle.tt_kinds.specs.Kinds.{node_shape, region_shape, binder_shape}
-use Rattle.tt_kinds.specs.declared.parts.Node.{Node}
+use Rattle.tt_kinds.specs.Tree.{Depth, Tree}
+use Rattle.tt_kinds.specs.Shape.{Shape, stored, fill}
+use Rattle.tt_kinds.specs.Handle.{any_handle}
+use Rattle.tt_kinds.specs.TermTable.{term_table}
+use Rattle.tt_kinds.specs.Kinds.{region_shape, binder_shape}
+use Rattle.tt_kinds.specs.declared.handle.AnyHandle.{AnyHandle}
+use Rattle.tt_kinds.specs.declared.handle.Handle.{Handle}
+use Rattle.tt_kinds.specs.declared.table.Table.{Table}
+use Rattle.tt_kinds.specs.declared.table.TermTable.{TermTable}
 use Rattle.tt_kinds.specs.declared.binder.Binder.{Binder}
 use Rattle.tt_kinds.specs.declared.region_kind.RegionKind.{RegionKind}
 use Rattle.tt_interner.specs.Rows.{Row}
@@ -14,7 +20,7 @@ use Rattle.tt_fold.specs.Walk.{under_failed, leave_failed, WalksInside, InsideFa
 use Rattle.tt_fold.specs.Walk.{super_binder, SuperFails, super_term_failed, super_binder_failed}
 use Rattle.tt_fold.specs.Counts.{Standing, stands}
 use Rattle.tt_fold.specs.Steps.{Folds, IsPartOf, tree_in, IsPartBy, tree_by, HasVars, vars_in}
-use Rattle.tt_fold.specs.Parts.{node_tree, IsNodeFor}
+use Rattle.tt_fold.specs.Parts.{handle_tree, IsStoredFor}
 use Rattle.tt_fold.proofs.PartLaws.{vars-kept, vars-grow}
 use Rattle.tt_fold.proofs.FoldSteps.{region-is}
 
@@ -126,18 +132,26 @@ module _ {M E S : Type 0} {owned : List Row → S → Type 0} {means : List Row 
             );
           }
 
-    -- a stored term without its own hook
-    module _ {T : Type 0} (f : T → Node) (shape : T → Shape) (same : (x : T) → node_shape (f x) ≡ shape x) where
-      -- without its own hook, the fold of a stored term fails if the fold of its contents fails
-      pub super_term_fails : {terms terms1 : Terms} {s s1 : S} {t : T} {e : E}
-          → Folds owned means (IsNodeFor (f t)) node_tree (WalksInside H) (InsideFails H errors) terms s (f t) (Err e) terms1 s1
-          → Folds owned means (IsPartBy shape) (tree_by shape) (SuperWalks H) (SuperFails H errors) terms s t (Err e) terms1 s1
-      super_term_fails {t} d = record { extends = d.extends; is_owned = d.is_owned; outcome = rw (← same t) (super_term_failed d.outcome) }
+-- a handle of a table of terms or lists, by the walk of what is stored
+module _ {K : Type 0} (l : TermTable) (t : Table) (same : term_table l ≡ t) {M E S : Type 0} {owned : List Row → S → Type 0} {means : List Row → S → M}
+    {walks : Standing M → Tree Depth → Tree Depth → Standing M → Type 0} {fails : Standing M → Tree Depth → E → Standing M → Type 0} where
+  -- the fold of a handle fails if the fold of what is stored fails
+  pub handle_fails : {terms terms1 : Terms} {s s1 : S} {e : E} (x : Handle K)
+      → Folds owned means (IsStoredFor (any_handle l x)) handle_tree walks fails terms s (any_handle l x) (Err e) terms1 s1
+      → Folds owned means (IsPartBy (λ (y : Handle K). stored t y.number)) (tree_by (λ (y : Handle K). stored t y.number)) walks fails terms s x (Err e) terms1 s1
+  handle_fails x d = rw (← same) (record { extends = d.extends; is_owned = d.is_owned; outcome = d.outcome })
 
-      -- without its own hook, a stored term is folded to the term that comes of its contents
-      pub super_term_folds : {terms terms1 : Terms} {s s1 : S} {t u : T} {n : Node} → n ≡ f u
-          → Folds owned means (IsNodeFor (f t)) node_tree (WalksInside H) (InsideFails H errors) terms s (f t) (Ok n) terms1 s1
-          → Folds owned means (IsPartBy shape) (tree_by shape) (SuperWalks H) (SuperFails H errors) terms s t (Ok u) terms1 s1
-      super_term_folds {t} {u} is d =
-          let o = rw is at d.outcome in
-          record { extends = d.extends; is_owned = d.is_owned; outcome = (rw (← same u) o.0.owned, rw (← same t, ← same u) (super_term o.1)) }
+  -- a handle is folded to the handle of what came of what is stored
+  pub handle_folds : {terms terms1 : Terms} {s s1 : S} (x y : Handle K) {h : AnyHandle} → h ≡ any_handle l y
+      → Folds owned means (IsStoredFor (any_handle l x)) handle_tree walks fails terms s (any_handle l x) (Ok h) terms1 s1
+      → Folds owned means (IsPartBy (λ (z : Handle K). stored t z.number)) (tree_by (λ (z : Handle K). stored t z.number)) walks fails terms s x (Ok y) terms1 s1
+  handle_folds x y is d =
+      let o = rw is at d.outcome in
+      rw (← same) (record { extends = d.extends; is_owned = d.is_owned; outcome = (o.0.owned, o.1) })
+
+-- the walk inside a term is the walk without the hook at the term itself
+pub super_stored : {M E S T : Type 0} {owned : List Row → S → Type 0} {means : List Row → S → M} {H : Hooks (Standing M) E} {errors : Errors E} {owns : List Row → T → Type 0} {tree : List Row → T → Tree Depth}
+    {terms terms1 : Terms} {s s1 : S} {x : T} {r : Result T E}
+    → Folds owned means owns tree (WalksInside H) (InsideFails H errors) terms s x r terms1 s1
+    → Folds owned means owns tree (SuperWalks H) (SuperFails H errors) terms s x r terms1 s1
+super_stored {r} d = record { extends = d.extends; is_owned = d.is_owned; outcome = MatchResult-weaker r d.outcome (λ y k. (k.0, super_term k.1)) (λ e k. super_term_failed k) }

@@ -56,8 +56,7 @@ module _ {M E : Type 0} {H : Hooks M E} {errors : Errors E} where
   unfolding fill_all
   child_unwanted w rows child.Absent done bad b = absurd (none-wanted w bad)
   child_unwanted w rows (child.Region r) (next g done) bad b = no_clause g bad b
-  child_unwanted w rows (child.Node n) (next g done) bad b = no_clause g bad b
-  child_unwanted w rows (child.List l) (next g done) bad b = no_clause g bad b
+  child_unwanted w rows (child.Stored h) (next g done) bad b = no_clause g bad b
 
 -- an error that says of an item that it is no clause says of the list that it is not built
 abbrev pub TellsOfLists : {E : Type 0} → Errors E → Type 0

@@ -6,8 +6,8 @@ use Rattle.tt_kinds.specs.declared.table.Table.TheVariants.{Symbols}
 use Rattle.tt_kinds.specs.declared.parts.Kind.{Kind}
 use Rattle.tt_kinds.specs.declared.parts.Kind.TheVariants as kind
 use Rattle.tt_kinds.specs.declared.parts.Child.{Child}
-use Rattle.tt_kinds.specs.declared.parts.ListSort.{ListSort}
-use Rattle.tt_kinds.specs.declared.parts.ListSort.TheVariants as sort
+use Rattle.tt_kinds.specs.declared.table.TermTable.{TermTable}
+use Rattle.tt_kinds.specs.declared.table.TermTable.TheVariants as terms_of
 use Rattle.tt_interner.specs.Rows.{Row, row_shape, kind_row, is_in, table, size, meaning}
 use Rattle.tt_interner.specs.Stored.{Stores}
 use Rattle.tt_interner.specs.Children.{items_row}
@@ -40,13 +40,13 @@ kind-no_symbol (kind.Pat k) = refl
 kind-no_symbol (kind.Predicate k) = refl
 kind-no_symbol (kind.Existential k) = refl
 
-pub items-no_symbol : (s : ListSort) (items : List Child) → is_in Symbols (items_row s items) ≡ false
-items-no_symbol sort.Tys items = refl
-items-no_symbol sort.Consts items = refl
-items-no_symbol sort.Args items = refl
-items-no_symbol sort.Pats items = refl
-items-no_symbol sort.Existentials items = refl
-items-no_symbol sort.Clauses items = refl
+pub items-no_symbol : (t : TermTable) (items : List Child) → is_in Symbols (items_row t items) ≡ false
+items-no_symbol terms_of.TypeLists items = refl
+items-no_symbol terms_of.ConstLists items = refl
+items-no_symbol terms_of.ArgLists items = refl
+items-no_symbol terms_of.PatternLists items = refl
+items-no_symbol terms_of.ExistentialLists items = refl
+items-no_symbol _ items = refl
 
 -- a row of another table keeps the meaning of a number of this one
 meaning-other : (r : Row) (rows : List Row) (t : Table) (n : ℕ) → is_in t r ≡ false

@@ -4,12 +4,12 @@ use Rattle.std.specs.Prelude.{List as Listed}
 use Rattle.tt_kinds.specs.Label.{Name, VarKind, Label}
 use Rattle.tt_kinds.specs.Tree.{Depth, Tree, Forest}
 use Rattle.tt_kinds.specs.Shape.{Shape, Shapes, AreParts, fill_all, item_shapes, rename_label}
-use Rattle.tt_kinds.specs.Parts.{node_table, list_sort, child_sort, AreLike}
+use Rattle.tt_kinds.specs.Parts.{child_sort, AreLike}
 use Rattle.tt_kinds.specs.Kinds as form
-use Rattle.tt_kinds.specs.Kinds.{Form, node_shape, list_shape, child_shapes, parts_shapes, children_shapes}
+use Rattle.tt_kinds.specs.Kinds.{Form, handle_shape, child_shapes, parts_shapes, children_shapes}
 use Rattle.tt_kinds.specs.Handle.{BoundVarKinds}
-use Rattle.tt_kinds.specs.declared.parts.Node.{Node}
-use Rattle.tt_kinds.specs.declared.parts.List.{List}
+use Rattle.tt_kinds.specs.TermTable.{term_table}
+use Rattle.tt_kinds.specs.declared.handle.AnyHandle.{AnyHandle}
 use Rattle.tt_kinds.specs.declared.parts.Child.{Child}
 use Rattle.tt_kinds.specs.declared.parts.Child.TheVariants as child
 use Rattle.tt_kinds.specs.declared.parts.Parts.{Parts}
@@ -30,13 +30,9 @@ ArePartsOf rows ss = AreParts (size rows) ss
 abbrev pub trees_in : Listed Row → Shapes → Forest Depth
 trees_in rows ss = fill_all (meaning rows) ss
 
--- a stored term's tree
-abbrev pub node_tree : Listed Row → Node → Tree Depth
-node_tree rows n = tree_in rows (node_shape n)
-
--- a stored list's tree
-abbrev pub list_tree : Listed Row → List → Tree Depth
-list_tree rows l = tree_in rows (list_shape l)
+-- the tree of a stored term or list
+abbrev pub handle_tree : Listed Row → AnyHandle → Tree Depth
+handle_tree rows r = tree_in rows (handle_shape r)
 
 -- a child's tree, if there is one
 abbrev pub child_trees : Listed Row → Child → Forest Depth
@@ -51,14 +47,9 @@ abbrev pub children_trees : Listed Row → Listed Child → Forest Depth
 children_trees rows cs = trees_in rows (children_shapes cs)
 
 -- the result is among the rows, in the same table
-pub record IsNodeFor (x : Node) (rows : Listed Row) (y : Node) : Type 0 where
-  pub owned : IsPartOf rows (node_shape y)
-  pub like : node_table y ≡ node_table x
-
--- the result is among the rows, and a list of the same sort
-pub record IsListFor (x : List) (rows : Listed Row) (y : List) : Type 0 where
-  pub owned : IsPartOf rows (list_shape y)
-  pub like : list_sort y ≡ list_sort x
+pub record IsStoredFor (x : AnyHandle) (rows : Listed Row) (y : AnyHandle) : Type 0 where
+  pub owned : IsPartOf rows (handle_shape y)
+  pub like : y.table ≡ x.table
 
 -- the result is among the rows, and of the same sort
 pub record IsChildFor (x : Child) (rows : Listed Row) (y : Child) : Type 0 where
@@ -71,12 +62,12 @@ pub record ArePartsFor (x : Parts) (rows : Listed Row) (y : Parts) : Type 0 wher
   pub like : AreLike x y
 
 -- the stored term has a hook
-abbrev pub HasHook : Node → Type 0
-HasHook n = table_root (node_table n) ≡ hooked
+abbrev pub HasHook : AnyHandle → Type 0
+HasHook r = table_root (term_table r.table) ≡ hooked
 
 -- the handle in a hook's answer is among the rows, and of the same table
-abbrev pub IsStepFor : Node → Listed Row → Step Node → Type 0
-IsStepFor x rows (step.Replace n) = IsNodeFor x rows n
+abbrev pub IsStepFor : AnyHandle → Listed Row → Step AnyHandle → Type 0
+IsStepFor x rows (step.Replace n) = IsStoredFor x rows n
 IsStepFor x rows step.Keep = ⊤
 IsStepFor x rows step.Descend = ⊤
 

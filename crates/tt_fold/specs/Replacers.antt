@@ -35,11 +35,11 @@ no_promise = record {
 }
 
 -- the table of a stored term, as the root of its tree says
-abbrev pub term_table : Tree Depth → Option Table
-term_table (param s i name) = sort_table s
-term_table (bound s d e) = sort_table s
-term_table (term l ts) = label_table l
-term_table _ = None
+abbrev pub hook_table : Tree Depth → Option Table
+hook_table (param s i name) = sort_table s
+hook_table (bound s d e) = sort_table s
+hook_table (term l ts) = label_table l
+hook_table _ = None
 
 -- what the hooks may answer at a term of the table: a term that is no type and no constant is entered
 abbrev pub AnswersIn : {M E : Type 0} → ReplacerHooks M E → Option Table → M → Tree Depth → Answer → M → Type 0
@@ -59,8 +59,8 @@ abbrev pub walk_hooks : {M E : Type 0} → ReplacerHooks M E → Hooks M E
 walk_hooks H = record {
   on_region = H.regions.on_region;
   region_fails = H.regions.region_fails;
-  on_term = λ s t a s'. AnswersIn H (term_table t) s t a s';
-  term_fails = λ unbuilt s t e s'. FailsIn H (term_table t) unbuilt s t e s';
+  on_term = λ s t a s'. AnswersIn H (hook_table t) s t a s';
+  term_fails = λ unbuilt s t e s'. FailsIn H (hook_table t) unbuilt s t e s';
   after_term = λ s t u r s'. (r ≡ u) × (s' ≡ s);
   after_fails = λ unbuilt s t u e s'. ⊥;
   enter = H.enter;

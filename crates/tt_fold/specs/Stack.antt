@@ -3,7 +3,7 @@ use Rattle.std.specs.Prelude.{◌≡◌, Option, Some, None, List, [], ◌∷◌
 use Rattle.tt_kinds.specs.Label.{Name, VarKind, Label}
 use Rattle.tt_kinds.specs.Tree.{Depth, Tree, term, node, binder, Forest, none, also}
 use Rattle.tt_kinds.specs.Kinds.{items_tree}
-use Rattle.tt_kinds.specs.declared.parts.ListSort.{ListSort}
+use Rattle.tt_kinds.specs.declared.table.TermTable.{TermTable}
 use Rattle.tt_visit.specs.Root.{root, a_part}
 use Rattle.tt_fold.specs.Walk.{IsTerm, IsPassed, Wanted, any_trees, wanted_in, wanted_of, HasUnwanted, LosesClause}
 use Rattle.tt_fold.specs.Walk.{Hooks, Errors, descend, WalksAll, FailsAll}
@@ -19,32 +19,32 @@ pub data Outline : Type 0 where
   plain : Label Name → Outline
   -- a term of the first label, with its children under a binder, in a node of the other label
   under : Label Name → List (VarKind Name) → Label Name → Outline
-  -- a list
-  items : ListSort → Outline
+  -- a list of the table
+  items : TermTable → Outline
 
 -- the tree with this outline and these children
 abbrev pub whole : Outline → Forest Depth → Tree Depth
 whole (plain l) ts = term l ts
 whole (under l vs m) ts = term l (also (binder vs (node m ts)) none)
-whole (items sort) ts = items_tree sort ts
+whole (items l) ts = items_tree l ts
 
 -- the variables of an outline's binder, if it has one
 abbrev pub binder_of : Outline → Option (List (VarKind Name))
 binder_of (plain l) = None
 binder_of (under l vs m) = Some vs
-binder_of (items sort) = None
+binder_of (items l) = None
 
 -- what the children of an outline have to become
 abbrev pub wanted_by : Outline → Wanted
 wanted_by (plain l) = any_trees
 wanted_by (under l vs m) = any_trees
-wanted_by (items sort) = wanted_of sort
+wanted_by (items l) = wanted_of l
 
 -- the children of a term with the outline may become any trees
 abbrev pub TakesAny : Outline → Type 0
 TakesAny (plain l) = wanted_in l ≡ any_trees
 TakesAny (under l vs m) = (wanted_in l ≡ any_trees) × ((ts us : Forest Depth) → LosesClause m ts us → ⊥)
-TakesAny (items sort) = ⊤
+TakesAny (items l) = ⊤
 
 module _ {M E : Type 0} (H : Hooks M E) where
   -- the hook at the tree, if there is one, answered `descend`

@@ -1,9 +1,9 @@
 -- The walk of a folder over a tree, and a walk that an error ends.
-use Rattle.std.specs.Prelude.{◌≡◌, ℕ, List, Option, Some, None}
+use Rattle.std.specs.Prelude.{◌≡◌, ℕ, List, Option, Some, None, cond}
 use Rattle.tt_kinds.specs.Label.{Name, Sort, VarKind, Entry, Label, clause_list_label, clause_label}
 use Rattle.tt_kinds.specs.Tree.{Depth, Tree, param, bound, term, node, binder, Forest, none, also}
-use Rattle.tt_kinds.specs.declared.parts.ListSort.{ListSort}
-use Rattle.tt_kinds.specs.declared.parts.ListSort.TheVariants.{Clauses}
+use Rattle.tt_kinds.specs.declared.table.TermTable.{TermTable}
+use Rattle.tt_kinds.specs.TermTable.{is_clause_table}
 use Rattle.tt_interner.specs.Clauses.{HasOther}
 use Rattle.tt_visit.specs.Root.{a_region, hooked, unhooked, root}
 
@@ -35,10 +35,9 @@ abbrev pub wanted_in : Label Name → Wanted
 wanted_in clause_list_label = clause_trees
 wanted_in _ = any_trees
 
--- what the items of a list of the sort have to become
-abbrev pub wanted_of : ListSort → Wanted
-wanted_of Clauses = clause_trees
-wanted_of _ = any_trees
+-- what the items of a list of the table have to become
+abbrev pub wanted_of : TermTable → Wanted
+wanted_of t = cond (is_clause_table t) clause_trees any_trees
 
 -- one of the trees is no clause, where clauses are wanted
 abbrev pub HasUnwanted : Wanted → Forest Depth → Type 0

@@ -4,9 +4,9 @@
 ghost use Rattle.std.specs.Prelude.{◌≡◌, ◌<◌, ◌++◌, ◌∷◌, [], Some, length, slice_get, IfErr, OnOk};
 ghost use Rattle.std.specs.Prelude.{List as Listed};
 ghost use Rattle.tt_index.specs.declared.refusal.Refusal.TheVariants.{Memory};
-ghost use Rattle.tt_kinds.specs.Kinds.{child_shapes, ty_shape, tys_shape};
-ghost use Rattle.tt_kinds.specs.Handle.{Ty};
-ghost use Rattle.tt_kinds.specs.declared.parts.Node.TheVariants as node;
+ghost use Rattle.tt_kinds.specs.Kinds.{child_shapes, handle_shape, ty_shape, tys_shape};
+ghost use Rattle.tt_kinds.specs.Handle.{any_handle, Ty};
+ghost use Rattle.tt_kinds.specs.declared.table.TermTable.TheVariants as terms_of;
 ghost use Rattle.tt_kinds.specs.declared.table.Table.TheVariants.{TypeLists};
 ghost use Rattle.tt_interner.specs.Rows.{size, tys_row};
 ghost use Rattle.tt_interner.specs.Stored.{IsAt};
@@ -22,19 +22,18 @@ ghost use Rattle.tt_fold.specs.Walk.{
 };
 ghost use Rattle.tt_fold.specs.Steps.{errors_of, Folds, IsPartBy, IsPartOf, tree_by};
 ghost use Rattle.tt_fold.specs.Still.{StaysStill};
-ghost use Rattle.tt_fold.specs.Items.{child_shape, IsWhole};
-ghost use Rattle.tt_fold.specs.Parts.{ArePartsOf, child_trees, IsChildFor, IsNodeFor, node_tree};
+ghost use Rattle.tt_fold.specs.Items.{child_shape};
+ghost use Rattle.tt_fold.specs.Parts.{ArePartsOf, child_trees, IsChildFor, IsStoredFor, handle_tree};
 
 use crate::core_folder::Core;
 use crate::folder::Step;
-use crate::items::{ty_in, tys_in};
 use crate::rebuild::leave;
-use crate::stack::{Begun, begin, enter, finish_by_call, fold_frames, is_leaf};
+use crate::stack::{Begun, begin_other, enter, finish_other, fold_frames, is_leaf};
 use crate::walk::fold_inside;
 use smallvec::SmallVec;
 use tt_index::Refusal;
 use tt_interner::{InternedList, Interner};
-use tt_kinds::{Child, List, Node, Parts, Ty, Tys};
+use tt_kinds::{AnyHandle, Child, Parts, TermTable, Ty, Tys};
 
 // How many types deep a walk goes by calls. Each level, with a list of types inside of it, takes less than a kilobyte
 // of the machine's stack.
@@ -59,67 +58,68 @@ pub(crate) fn fold_within<M, F: Core<M>>(
         (WalksAll F.hooks) (ChildFails F.hooks (errors_of F.Error.from_gives cx.new))
         cx.old folder.old child.now result cx.new folder.new }
 {
-    match (ty_in(child), tys_in(child)) {
-        (Some(ty), _) => {
-            let new_ty = fold_ty::<M, F>(cx, folder, ty, levels)?;
-            Ok(Child::Node(Node::Ty(new_ty)))
-        }
-        (None, Some(tys)) => {
-            let new_tys = fold_tys::<M, F>(cx, folder, tys, levels)?;
-            Ok(Child::List(List::Tys(new_tys)))
-        }
-        (None, None) => fold_other::<M, F>(cx, folder, child),
-    }
-}
-
-// Walks a child that is neither a type nor a list of types. A term or a list is walked by the loop.
-#[inline(always)]
-fn fold_other<M, F: Core<M>>(
-    cx: &mut Interner,
-    folder: &mut F,
-    child: &Child,
-) -> Result<Child, F::Error>
-    requires owned { F.owned cx.old.rows folder.old }
-    requires child { ArePartsOf cx.old.rows (child_shapes child.now) }
-    ensures still { StaysStill F.hooks F.touches_nothing F.meaning (child_shape child.now) cx.old folder.old cx.new }
-    ensures folds { Folds F.owned F.meaning (IsChildFor child.now) child_trees
-        (WalksAll F.hooks) (ChildFails F.hooks (errors_of F.Error.from_gives cx.new))
-        cx.old folder.old child.now result cx.new folder.new }
-{
     match child {
-        Child::Absent => Ok(Child::Absent),
+        Child::Stored(handle) => {
+            let folded = fold_stored_within::<M, F>(cx, folder, *handle, levels)?;
+            Ok(Child::Stored(folded))
+        }
         Child::Region(region) => {
             let new_region = folder.core_region(cx, *region)?;
             Ok(Child::Region(new_region))
         }
-        _ => {
-            // The argument is copied, so that it needs no place in memory in the other arms.
-            let copied = *child;
-            fold_by_loop::<M, F>(cx, folder, &copied)
-        }
+        Child::Absent => Ok(Child::Absent),
     }
 }
 
-// Walks a child by the loop. A child that the walk doesn't enter starts no stack.
+// Walks a stored term or list: a type or a list of types by calls, any other by the loop.
+#[cycle(calls)]
+#[inline(always)]
+pub(crate) fn fold_stored_within<M, F: Core<M>>(
+    cx: &mut Interner,
+    folder: &mut F,
+    handle: AnyHandle,
+    levels: u32,
+) -> Result<AnyHandle, F::Error>
+    requires owned { F.owned cx.old.rows folder.old }
+    requires handle { IsPartOf cx.old.rows (handle_shape handle) }
+    ensures still { StaysStill F.hooks F.touches_nothing F.meaning (handle_shape handle) cx.old folder.old cx.new }
+    ensures folds { Folds F.owned F.meaning (IsStoredFor handle) handle_tree
+        (Walks F.hooks) (Fails F.hooks (errors_of F.Error.from_gives cx.new))
+        cx.old folder.old handle result cx.new folder.new }
+{
+    match handle.table {
+        TermTable::Types => {
+            let new_ty = fold_ty::<M, F>(cx, folder, handle.typed(), levels)?;
+            Ok(new_ty.any())
+        }
+        TermTable::TypeLists => {
+            let new_tys = fold_tys::<M, F>(cx, folder, handle.typed(), levels)?;
+            Ok(new_tys.any())
+        }
+        _ => fold_by_loop::<M, F>(cx, folder, handle),
+    }
+}
+
+// Walks a term or a list by the loop. A term whose hook replaces or keeps it needs no stack.
 #[inline(never)]
 fn fold_by_loop<M, F: Core<M>>(
     cx: &mut Interner,
     folder: &mut F,
-    child: &Child,
-) -> Result<Child, F::Error>
+    handle: AnyHandle,
+) -> Result<AnyHandle, F::Error>
     requires owned { F.owned cx.old.rows folder.old }
-    requires child { ArePartsOf cx.old.rows (child_shapes child.now) }
-    ensures still { StaysStill F.hooks F.touches_nothing F.meaning (child_shape child.now) cx.old folder.old cx.new }
-    ensures folds { Folds F.owned F.meaning (IsChildFor child.now) child_trees
-        (WalksAll F.hooks) (ChildFails F.hooks (errors_of F.Error.from_gives cx.new))
-        cx.old folder.old child.now result cx.new folder.new }
+    requires handle { IsPartOf cx.old.rows (handle_shape handle) }
+    ensures still { StaysStill F.hooks F.touches_nothing F.meaning (handle_shape handle) cx.old folder.old cx.new }
+    ensures folds { Folds F.owned F.meaning (IsStoredFor handle) handle_tree
+        (Walks F.hooks) (Fails F.hooks (errors_of F.Error.from_gives cx.new))
+        cx.old folder.old handle result cx.new folder.new }
 {
-    let begun = begin::<M, F>(cx, folder, child)?;
+    let begun = begin_other::<M, F>(cx, folder, handle)?;
     match begun {
-        Begun::Done(value) => Ok(value),
+        Begun::Done(folded) => Ok(folded),
         Begun::Inside(frame) => {
             let rebuilt = fold_frames::<M, F>(cx, folder, frame)?;
-            finish_by_call::<M, F>(cx, folder, child, rebuilt)
+            finish_other::<M, F>(cx, folder, handle, rebuilt)
         }
     }
 }
@@ -140,9 +140,9 @@ fn fold_ty<M, F: Core<M>>(
         (Walks F.hooks) (Fails F.hooks (errors_of F.Error.from_gives cx.new))
         cx.old folder.old ty result cx.new folder.new }
 {
-    let step = folder.core_term(cx, Node::Ty(ty))?;
+    let step = folder.core_term(cx, ty.any())?;
     match step {
-        Step::Replace(new) => Ok(new.ty()),
+        Step::Replace(new) => Ok(new.typed()),
         Step::Keep => Ok(ty),
         Step::Descend => descend::<M, F>(cx, folder, ty, levels),
     }
@@ -164,8 +164,8 @@ fn descend<M, F: Core<M>>(
         cx.old folder.old ty result cx.new folder.new }
 {
     let rebuilt = fold_contents_of::<M, F>(cx, folder, ty, levels)?;
-    let new_node = folder.core_after_term(cx, Node::Ty(ty), rebuilt)?;
-    Ok(new_node.ty())
+    let new_term = folder.core_after_term(cx, ty.any(), rebuilt)?;
+    Ok(new_term.typed())
 }
 
 // Walks the contents of a type, and returns the type with their results. A type without children is kept. If no level
@@ -177,25 +177,26 @@ fn fold_contents_of<M, F: Core<M>>(
     folder: &mut F,
     ty: Ty,
     levels: u32,
-) -> Result<Node, F::Error>
+) -> Result<AnyHandle, F::Error>
     requires owned { F.owned cx.old.rows folder.old }
     requires ty { IsPartOf cx.old.rows (ty_shape ty) }
-    ensures { Folds F.owned F.meaning (IsNodeFor (node.Ty ty)) node_tree
+    ensures { Folds F.owned F.meaning (IsStoredFor (any_handle terms_of.Types ty)) handle_tree
         (WalksInside F.hooks) (InsideFails F.hooks (errors_of F.Error.from_gives cx.new))
-        cx.old folder.old (node.Ty ty) result cx.new folder.new }
+        cx.old folder.old (any_handle terms_of.Types ty) result cx.new folder.new }
 {
+    let handle = ty.any();
     if levels == 0 {
-        return fold_inside::<M, F>(cx, folder, Node::Ty(ty));
+        return fold_inside::<M, F>(cx, folder, handle);
     }
-    let contents = cx.node_parts(Node::Ty(ty));
+    let contents = cx.node_parts(handle);
     if is_leaf(&contents) {
-        return Ok(Node::Ty(ty));
+        return Ok(handle);
     }
     enter::<M, F>(cx, folder, contents.bound_vars)?;
     let first = fold_within::<M, F>(cx, folder, &contents.parts.first, levels - 1)?;
     let second = fold_within::<M, F>(cx, folder, &contents.parts.second, levels - 1)?;
     leave::<M, F>(cx, folder, contents.bound_vars)?;
-    let rebuilt = cx.store_like(Node::Ty(ty), Parts { first, second })?;
+    let rebuilt = cx.store_like(handle, Parts { first, second })?;
     Ok(rebuilt)
 }
 

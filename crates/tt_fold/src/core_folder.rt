@@ -2,7 +2,7 @@
 
 ghost use Rattle.std.specs.Prelude.{◌≡◌, List};
 ghost use Rattle.tt_index.specs.declared.refusal.Refusal.{Refusal};
-ghost use Rattle.tt_kinds.specs.Kinds.{node_shape, region_shape};
+ghost use Rattle.tt_kinds.specs.Kinds.{region_shape, handle_shape};
 ghost use Rattle.tt_kinds.specs.Tree.{Depth, Tree};
 ghost use Rattle.tt_interner.specs.Rows.{Row};
 ghost use Rattle.tt_interner.specs.Stored.{Extends};
@@ -20,16 +20,13 @@ ghost use Rattle.tt_fold.specs.Steps.{
   LeavesBinder,
   tree_in,
 };
-ghost use Rattle.tt_fold.specs.Parts.{HasHook, IsNodeFor, IsStepFor, node_tree};
+ghost use Rattle.tt_fold.specs.Parts.{HasHook, IsStoredFor, IsStepFor, handle_tree};
 
 use crate::folder::{FallibleTypeFolder, Step, TypeFolder};
-use crate::step_of_node::{
-    clauses_node, clauses_step, const_node, const_step, predicate_node, predicate_step, ty_node,
-    ty_step,
-};
+use crate::step_of_handle::{any_of, step_of};
 use tt_index::Refusal;
 use tt_interner::Interner;
-use tt_kinds::{BoundVarKinds, Node, Region, Ty};
+use tt_kinds::{AnyHandle, BoundVarKinds, Region, TermTable, Ty};
 
 /// The hooks that the walk calls on a folder of any trait; the mark `M` names the trait.
 pub trait Core<M> {
@@ -61,18 +58,22 @@ pub trait Core<M> {
 
     /// Called at each stored term that has a hook, before its contents.
     #[inline(always)]
-    fn core_term(&mut self, cx: &mut Interner, node: Node) -> Result<Step<Node>, Self::Error>
+    fn core_term(
+        &mut self,
+        cx: &mut Interner,
+        handle: AnyHandle,
+    ) -> Result<Step<AnyHandle>, Self::Error>
         requires owned { owned cx.old.rows self.old }
-        requires node { IsPartOf cx.old.rows (node_shape node) }
-        requires hooked { HasHook node }
-        ensures still { touches_nothing cx.old.rows self.old (node_tree cx.old.rows node) → cx.new ≡ cx.old }
+        requires handle { IsPartOf cx.old.rows (handle_shape handle) }
+        requires hooked { HasHook handle }
+        ensures still { touches_nothing cx.old.rows self.old (handle_tree cx.old.rows handle) → cx.new ≡ cx.old }
         ensures goes { Goes owned meaning
-            (λ rows step s s'. IsStepFor node rows step
-            × hooks.on_term s (node_tree cx.old.rows node) (answer_of node_shape rows step) s')
+            (λ rows step s s'. IsStepFor handle rows step
+            × hooks.on_term s (handle_tree cx.old.rows handle) (answer_of handle_shape rows step) s')
             (λ s e s'. hooks.term_fails
             (IsErrorOfUnbuilt Self.Error.from_gives cx.new)
             s
-            (node_tree cx.old.rows node)
+            (handle_tree cx.old.rows handle)
             e
             s')
             cx.old self.old result cx.new self.new };
@@ -82,25 +83,25 @@ pub trait Core<M> {
     fn core_after_term(
         &mut self,
         cx: &mut Interner,
-        before: Node,
-        rebuilt: Node,
-    ) -> Result<Node, Self::Error>
+        before: AnyHandle,
+        rebuilt: AnyHandle,
+    ) -> Result<AnyHandle, Self::Error>
         requires owned { owned cx.old.rows self.old }
-        requires before { IsPartOf cx.old.rows (node_shape before) }
+        requires before { IsPartOf cx.old.rows (handle_shape before) }
         requires hooked { HasHook before }
-        requires rebuilt { IsNodeFor before cx.old.rows rebuilt }
+        requires rebuilt { IsStoredFor before cx.old.rows rebuilt }
         ensures { Goes owned meaning
-            (λ rows node s s'. IsNodeFor before rows node
+            (λ rows after s s'. IsStoredFor before rows after
             × hooks.after_term s
-            (node_tree cx.old.rows before)
-            (node_tree cx.old.rows rebuilt)
-            (node_tree rows node)
+            (handle_tree cx.old.rows before)
+            (handle_tree cx.old.rows rebuilt)
+            (handle_tree rows after)
             s')
             (λ s e s'. hooks.after_fails
             (IsErrorOfUnbuilt Self.Error.from_gives cx.new)
             s
-            (node_tree cx.old.rows before)
-            (node_tree cx.old.rows rebuilt)
+            (handle_tree cx.old.rows before)
+            (handle_tree cx.old.rows rebuilt)
             e
             s')
             cx.old self.old result cx.new self.new };
@@ -154,13 +155,17 @@ impl<F: TypeFolder> Core<Plain> for F {
     }
 
     #[inline(always)]
-    fn core_term(&mut self, cx: &mut Interner, node: Node) -> Result<Step<Node>, Refusal> {
-        match node {
-            Node::Ty(ty) => ty_step(self.fold_ty(cx, ty)),
-            Node::Const(constant) => const_step(self.fold_const(cx, constant)),
-            Node::Predicate(predicate) => predicate_step(self.fold_predicate(cx, predicate)),
-            Node::Clauses(clauses) => clauses_step(self.fold_clauses(cx, clauses)),
-            Node::Pat(_) | Node::Existential(_) => unreachable!(),
+    fn core_term(
+        &mut self,
+        cx: &mut Interner,
+        handle: AnyHandle,
+    ) -> Result<Step<AnyHandle>, Refusal> {
+        match handle.table {
+            TermTable::Types => step_of(self.fold_ty(cx, handle.typed())),
+            TermTable::Consts => step_of(self.fold_const(cx, handle.typed())),
+            TermTable::Predicates => step_of(self.fold_predicate(cx, handle.typed())),
+            TermTable::ClauseLists => step_of(self.fold_clauses(cx, handle.typed())),
+            _ => unreachable!(),
         }
     }
 
@@ -168,23 +173,23 @@ impl<F: TypeFolder> Core<Plain> for F {
     fn core_after_term(
         &mut self,
         cx: &mut Interner,
-        before: Node,
-        rebuilt: Node,
-    ) -> Result<Node, Refusal> {
-        match before {
-            Node::Ty(ty) => ty_node(self.after_ty(cx, ty, rebuilt.ty())),
-            Node::Const(constant) => const_node(self.after_const(cx, constant, rebuilt.constant())),
-            Node::Predicate(predicate) => predicate_node(self.after_predicate(
+        before: AnyHandle,
+        rebuilt: AnyHandle,
+    ) -> Result<AnyHandle, Refusal> {
+        match before.table {
+            TermTable::Types => any_of(self.after_ty(cx, before.typed(), rebuilt.typed())),
+            TermTable::Consts => any_of(self.after_const(cx, before.typed(), rebuilt.typed())),
+            TermTable::Predicates => any_of(self.after_predicate(
                 cx,
-                predicate,
-                rebuilt.predicate(),
+                before.typed(),
+                rebuilt.typed(),
             )),
-            Node::Clauses(clauses) => clauses_node(self.after_clauses(
+            TermTable::ClauseLists => any_of(self.after_clauses(
                 cx,
-                clauses,
-                rebuilt.clauses(),
+                before.typed(),
+                rebuilt.typed(),
             )),
-            Node::Pat(_) | Node::Existential(_) => unreachable!(),
+            _ => unreachable!(),
         }
     }
 
@@ -220,13 +225,17 @@ impl<F: FallibleTypeFolder> Core<Fallible> for F {
     }
 
     #[inline(always)]
-    fn core_term(&mut self, cx: &mut Interner, node: Node) -> Result<Step<Node>, F::Error> {
-        match node {
-            Node::Ty(ty) => ty_step(self.try_fold_ty(cx, ty)),
-            Node::Const(constant) => const_step(self.try_fold_const(cx, constant)),
-            Node::Predicate(predicate) => predicate_step(self.try_fold_predicate(cx, predicate)),
-            Node::Clauses(clauses) => clauses_step(self.try_fold_clauses(cx, clauses)),
-            Node::Pat(_) | Node::Existential(_) => unreachable!(),
+    fn core_term(
+        &mut self,
+        cx: &mut Interner,
+        handle: AnyHandle,
+    ) -> Result<Step<AnyHandle>, F::Error> {
+        match handle.table {
+            TermTable::Types => step_of(self.try_fold_ty(cx, handle.typed())),
+            TermTable::Consts => step_of(self.try_fold_const(cx, handle.typed())),
+            TermTable::Predicates => step_of(self.try_fold_predicate(cx, handle.typed())),
+            TermTable::ClauseLists => step_of(self.try_fold_clauses(cx, handle.typed())),
+            _ => unreachable!(),
         }
     }
 
@@ -234,23 +243,23 @@ impl<F: FallibleTypeFolder> Core<Fallible> for F {
     fn core_after_term(
         &mut self,
         cx: &mut Interner,
-        before: Node,
-        rebuilt: Node,
-    ) -> Result<Node, F::Error> {
-        match before {
-            Node::Ty(ty) => ty_node(self.after_ty(cx, ty, rebuilt.ty())),
-            Node::Const(constant) => const_node(self.after_const(cx, constant, rebuilt.constant())),
-            Node::Predicate(predicate) => predicate_node(self.after_predicate(
+        before: AnyHandle,
+        rebuilt: AnyHandle,
+    ) -> Result<AnyHandle, F::Error> {
+        match before.table {
+            TermTable::Types => any_of(self.after_ty(cx, before.typed(), rebuilt.typed())),
+            TermTable::Consts => any_of(self.after_const(cx, before.typed(), rebuilt.typed())),
+            TermTable::Predicates => any_of(self.after_predicate(
                 cx,
-                predicate,
-                rebuilt.predicate(),
+                before.typed(),
+                rebuilt.typed(),
             )),
-            Node::Clauses(clauses) => clauses_node(self.after_clauses(
+            TermTable::ClauseLists => any_of(self.after_clauses(
                 cx,
-                clauses,
-                rebuilt.clauses(),
+                before.typed(),
+                rebuilt.typed(),
             )),
-            Node::Pat(_) | Node::Existential(_) => unreachable!(),
+            _ => unreachable!(),
         }
     }
 

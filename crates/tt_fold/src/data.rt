@@ -138,10 +138,6 @@ impl<S> FoldsToItself for Id<S> {
     ghost is_data = { λ value. tt };
 }
 
-impl FoldsToItself for Symbol {
-    ghost is_data = { λ value. tt };
-}
-
 impl FoldsToItself for ParamTy {
     ghost is_data = { λ value. tt };
 }
@@ -190,6 +186,22 @@ impl FoldsToItself for BoundVariableKind {
     ghost is_data = { λ value. tt };
 }
 
-impl FoldsToItself for BoundVarKinds {
-    ghost is_data = { λ value. tt };
+impl TypeFoldable for Symbol {
+    fn fold_core<M, F: Core<M>>(
+        self,
+        _cx: &mut Interner,
+        _folder: &mut F,
+    ) -> Result<Symbol, F::Error> {
+        Ok(self)
+    }
+}
+
+impl TypeFoldable for BoundVarKinds {
+    fn fold_core<M, F: Core<M>>(
+        self,
+        _cx: &mut Interner,
+        _folder: &mut F,
+    ) -> Result<BoundVarKinds, F::Error> {
+        Ok(self)
+    }
 }

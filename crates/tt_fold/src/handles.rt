@@ -8,48 +8,60 @@ ghost use Rattle.tt_fold.specs.Steps.{IsPartBy};
 
 use crate::core_folder::Core;
 use crate::foldable::{TypeFoldable, TypeSuperFoldable};
-use crate::walk::{fold_inside, fold_list, fold_node};
+use crate::walk::{fold_inside, fold_stored};
 use tt_index::Refusal;
 use tt_interner::{AsClause, AsPredicate, Interner};
-use tt_kinds::{
-    BoundExistentialPredicates, Clause, Clauses, Const, Consts, GenericArg, GenericArgKind,
-    GenericArgs, List, Node, Pat, PatList, PolyExistentialPredicate, Predicate, Region, Term,
-    TermKind, Ty, Tys,
+use tt_kinds::handle::{
+    ArgListRow, ClauseListRow, ConstListRow, ConstRow, ExistentialListRow, ExistentialRow,
+    PatternListRow, PatternRow, PredicateRow, TypeListRow, TypeRow,
 };
+use tt_kinds::{Clause, GenericArg, GenericArgKind, Handle, Predicate, Region, Term, TermKind};
+use tt_visit::{HasHook, IsWalked};
 
-impl TypeFoldable for Ty {
-    fn fold_core<M, F: Core<M>>(self, cx: &mut Interner, folder: &mut F) -> Result<Ty, F::Error> {
-        let node = fold_node::<M, F>(cx, folder, Node::Ty(self))?;
-        Ok(node.ty())
-    }
-}
+/// The trait of the marks of terms and of lists of terms, whose handles folds follow.
+pub trait IsFolded: IsWalked {}
 
-impl TypeFoldable for Const {
+impl IsFolded for TypeRow {}
+
+impl IsFolded for ConstRow {}
+
+impl IsFolded for PatternRow {}
+
+impl IsFolded for PredicateRow {}
+
+impl IsFolded for ExistentialRow {}
+
+impl IsFolded for ClauseListRow {}
+
+impl IsFolded for TypeListRow {}
+
+impl IsFolded for ConstListRow {}
+
+impl IsFolded for ArgListRow {}
+
+impl IsFolded for PatternListRow {}
+
+impl IsFolded for ExistentialListRow {}
+
+impl<K: IsFolded> TypeFoldable for Handle<K> {
     fn fold_core<M, F: Core<M>>(
         self,
         cx: &mut Interner,
         folder: &mut F,
-    ) -> Result<Const, F::Error> {
-        let node = fold_node::<M, F>(cx, folder, Node::Const(self))?;
-        Ok(node.constant())
+    ) -> Result<Handle<K>, F::Error> {
+        let handle = fold_stored::<M, F>(cx, folder, self.any())?;
+        Ok(handle.typed())
     }
 }
 
-impl TypeFoldable for Pat {
-    fn fold_core<M, F: Core<M>>(self, cx: &mut Interner, folder: &mut F) -> Result<Pat, F::Error> {
-        let node = fold_node::<M, F>(cx, folder, Node::Pat(self))?;
-        Ok(node.pat())
-    }
-}
-
-impl TypeFoldable for Predicate {
-    fn fold_core<M, F: Core<M>>(
+impl<K: HasHook + IsFolded> TypeSuperFoldable for Handle<K> {
+    fn super_fold_core<M, F: Core<M>>(
         self,
         cx: &mut Interner,
         folder: &mut F,
-    ) -> Result<Predicate, F::Error> {
-        let node = fold_node::<M, F>(cx, folder, Node::Predicate(self))?;
-        Ok(node.predicate())
+    ) -> Result<Handle<K>, F::Error> {
+        let handle = fold_inside::<M, F>(cx, folder, self.any())?;
+        Ok(handle.typed())
     }
 }
 
@@ -78,123 +90,6 @@ fn check_stays_clause(cx: &Interner, before: Predicate, folded: Predicate) -> Re
         Ok(())
     } else {
         Err(Refusal::NotAClause)
-    }
-}
-
-impl TypeFoldable for PolyExistentialPredicate {
-    fn fold_core<M, F: Core<M>>(
-        self,
-        cx: &mut Interner,
-        folder: &mut F,
-    ) -> Result<PolyExistentialPredicate, F::Error> {
-        let node = fold_node::<M, F>(cx, folder, Node::Existential(self))?;
-        Ok(node.existential())
-    }
-}
-
-impl TypeFoldable for Clauses {
-    fn fold_core<M, F: Core<M>>(
-        self,
-        cx: &mut Interner,
-        folder: &mut F,
-    ) -> Result<Clauses, F::Error> {
-        let node = fold_node::<M, F>(cx, folder, Node::Clauses(self))?;
-        Ok(node.clauses())
-    }
-}
-
-impl TypeSuperFoldable for Ty {
-    fn super_fold_core<M, F: Core<M>>(
-        self,
-        cx: &mut Interner,
-        folder: &mut F,
-    ) -> Result<Ty, F::Error> {
-        let node = fold_inside::<M, F>(cx, folder, Node::Ty(self))?;
-        Ok(node.ty())
-    }
-}
-
-impl TypeSuperFoldable for Const {
-    fn super_fold_core<M, F: Core<M>>(
-        self,
-        cx: &mut Interner,
-        folder: &mut F,
-    ) -> Result<Const, F::Error> {
-        let node = fold_inside::<M, F>(cx, folder, Node::Const(self))?;
-        Ok(node.constant())
-    }
-}
-
-impl TypeSuperFoldable for Predicate {
-    fn super_fold_core<M, F: Core<M>>(
-        self,
-        cx: &mut Interner,
-        folder: &mut F,
-    ) -> Result<Predicate, F::Error> {
-        let node = fold_inside::<M, F>(cx, folder, Node::Predicate(self))?;
-        Ok(node.predicate())
-    }
-}
-
-impl TypeSuperFoldable for Clauses {
-    fn super_fold_core<M, F: Core<M>>(
-        self,
-        cx: &mut Interner,
-        folder: &mut F,
-    ) -> Result<Clauses, F::Error> {
-        let node = fold_inside::<M, F>(cx, folder, Node::Clauses(self))?;
-        Ok(node.clauses())
-    }
-}
-
-impl TypeFoldable for Tys {
-    fn fold_core<M, F: Core<M>>(self, cx: &mut Interner, folder: &mut F) -> Result<Tys, F::Error> {
-        let list = fold_list::<M, F>(cx, folder, List::Tys(self))?;
-        Ok(list.tys())
-    }
-}
-
-impl TypeFoldable for Consts {
-    fn fold_core<M, F: Core<M>>(
-        self,
-        cx: &mut Interner,
-        folder: &mut F,
-    ) -> Result<Consts, F::Error> {
-        let list = fold_list::<M, F>(cx, folder, List::Consts(self))?;
-        Ok(list.consts())
-    }
-}
-
-impl TypeFoldable for GenericArgs {
-    fn fold_core<M, F: Core<M>>(
-        self,
-        cx: &mut Interner,
-        folder: &mut F,
-    ) -> Result<GenericArgs, F::Error> {
-        let list = fold_list::<M, F>(cx, folder, List::Args(self))?;
-        Ok(list.args())
-    }
-}
-
-impl TypeFoldable for PatList {
-    fn fold_core<M, F: Core<M>>(
-        self,
-        cx: &mut Interner,
-        folder: &mut F,
-    ) -> Result<PatList, F::Error> {
-        let list = fold_list::<M, F>(cx, folder, List::Pats(self))?;
-        Ok(list.pats())
-    }
-}
-
-impl TypeFoldable for BoundExistentialPredicates {
-    fn fold_core<M, F: Core<M>>(
-        self,
-        cx: &mut Interner,
-        folder: &mut F,
-    ) -> Result<BoundExistentialPredicates, F::Error> {
-        let list = fold_list::<M, F>(cx, folder, List::Existentials(self))?;
-        Ok(list.existentials())
     }
 }
 

@@ -36,7 +36,7 @@ pub mod replacer;
 mod shared;
 pub mod shift;
 mod stack;
-mod step_of_node;
+mod step_of_handle;
 pub mod type_replacer;
 mod types_once;
 mod walk;

@@ -1,27 +1,16 @@
 //! The terms and lists that a fold builds from the results of their children.
 
-ghost use Rattle.std.specs.Prelude.{
-  ◌≡◌,
-  ◌<◌,
-  ◌≤◌,
-  ◌-◌,
-  None,
-  length,
-  OnOk,
-  Some,
-  take,
-};
+ghost use Rattle.std.specs.Prelude.{◌≡◌, ◌<◌, ◌≤◌, ◌-◌, None, length, OnOk, Some, take, IsFalse, IsTrue};
 ghost use Rattle.tt_fold.specs.Steps.{errors_of, Goes};
 ghost use Rattle.tt_fold.specs.Parts.{binder_in, HasBinder};
-ghost use Rattle.tt_fold.specs.Items.{child_list};
+ghost use Rattle.tt_kinds.specs.TermTable.{has_items};
 ghost use Rattle.tt_fold.specs.Stack.{LeaveFails, Leaves};
 ghost use Rattle.tt_fold.specs.Going.{Holds, last_of, parts_of, RebuildsFrame};
 
 use crate::core_folder::Core;
-use crate::items::{as_item, as_list_item, list_in, term_in};
 use crate::stack::{Frame, Values};
 use tt_interner::Interner;
-use tt_kinds::{BoundVarKinds, Child, List, Node, Parts};
+use tt_kinds::{AnyHandle, BoundVarKinds, Child, Parts, TermTable};
 
 // Builds a term or a list from the results of its children, which are the last values.
 #[inline(always)]
@@ -30,7 +19,7 @@ pub(crate) fn rebuild<M, F: Core<M>>(
     folder: &mut F,
     frame: &Frame,
     values: &mut Values,
-) -> Result<Child, F::Error>
+) -> Result<AnyHandle, F::Error>
     requires owned { F.owned cx.old.rows folder.old }
     requires holds { Holds cx.old.rows frame.now (last_of frame.now.count values.old.items) }
     requires full { frame.now.count ≤ length values.old.items }
@@ -39,27 +28,22 @@ pub(crate) fn rebuild<M, F: Core<M>>(
     ensures goes { RebuildsFrame F.owned F.meaning F.hooks F.Error.from_gives
         frame.now (last_of frame.now.count values.old.items) cx.old folder.old result cx.new folder.new }
 {
-    match &frame.item {
-        Child::Node(Node::Ty(_)) => rebuild_term::<M, F>(cx, folder, frame, values),
-        Child::List(List::Tys(tys)) => rebuild_list::<M, F>(
-            cx,
-            folder,
-            frame,
-            List::Tys(*tys),
-            values,
-        ),
+    match frame.handle.table {
+        TermTable::Types => rebuild_term::<M, F>(cx, folder, frame, values),
+        TermTable::TypeLists => rebuild_list::<M, F>(cx, folder, frame, values),
         _ => rebuild_by_call::<M, F>(cx, folder, frame, values),
     }
 }
 
-// Builds a term or a list of any table, by a call. The argument and the result are copied, as in `begin_by_call`.
+// Builds a term or a list of any table, by a call. The argument and the result are copied, so that they share no place
+// in memory with those of the other arms.
 #[inline(always)]
 fn rebuild_by_call<M, F: Core<M>>(
     cx: &mut Interner,
     folder: &mut F,
     frame: &Frame,
     values: &mut Values,
-) -> Result<Child, F::Error>
+) -> Result<AnyHandle, F::Error>
     requires owned { F.owned cx.old.rows folder.old }
     requires holds { Holds cx.old.rows frame.now (last_of frame.now.count values.old.items) }
     requires full { frame.now.count ≤ length values.old.items }
@@ -80,7 +64,7 @@ fn rebuild_other<M, F: Core<M>>(
     folder: &mut F,
     frame: &Frame,
     values: &mut Values,
-) -> Result<Child, F::Error>
+) -> Result<AnyHandle, F::Error>
     requires owned { F.owned cx.old.rows folder.old }
     requires holds { Holds cx.old.rows frame.now (last_of frame.now.count values.old.items) }
     requires full { frame.now.count ≤ length values.old.items }
@@ -89,9 +73,10 @@ fn rebuild_other<M, F: Core<M>>(
     ensures goes { RebuildsFrame F.owned F.meaning F.hooks F.Error.from_gives
         frame.now (last_of frame.now.count values.old.items) cx.old folder.old result cx.new folder.new }
 {
-    match list_in(&frame.item) {
-        Some(list) => rebuild_list::<M, F>(cx, folder, frame, list, values),
-        None => rebuild_term::<M, F>(cx, folder, frame, values),
+    if frame.handle.table.has_items() {
+        rebuild_list::<M, F>(cx, folder, frame, values)
+    } else {
+        rebuild_term::<M, F>(cx, folder, frame, values)
     }
 }
 
@@ -101,12 +86,11 @@ fn rebuild_list<M, F: Core<M>>(
     cx: &mut Interner,
     folder: &F,
     frame: &Frame,
-    list: List,
     values: &mut Values,
-) -> Result<Child, F::Error>
+) -> Result<AnyHandle, F::Error>
     requires owned { F.owned cx.old.rows folder.now }
     requires holds { Holds cx.old.rows frame.now (last_of frame.now.count values.old.items) }
-    requires list { Some list ≡ child_list frame.now.item }
+    requires list { IsTrue (has_items frame.now.handle.table) }
     requires full { frame.now.count ≤ length values.old.items }
     ensures values { OnOk result
         (values.new.items ≡ take (length values.old.items - frame.now.count) values.old.items) }
@@ -114,9 +98,9 @@ fn rebuild_list<M, F: Core<M>>(
         frame.now (last_of frame.now.count values.old.items) cx.old folder.now result cx.new folder.now }
 {
     let results = last_values(values, frame.count);
-    let new_list = cx.store_list(list.sort(), results)?;
+    let new_list = cx.store_list(frame.handle.table, results)?;
     drop_values(values, frame.count);
-    Ok(as_list_item(&frame.item, new_list))
+    Ok(new_list)
 }
 
 // Leaves the binder of a term, if it has one.
@@ -146,24 +130,23 @@ fn rebuild_term<M, F: Core<M>>(
     folder: &mut F,
     frame: &Frame,
     values: &mut Values,
-) -> Result<Child, F::Error>
+) -> Result<AnyHandle, F::Error>
     requires owned { F.owned cx.old.rows folder.old }
     requires holds { Holds cx.old.rows frame.now (last_of frame.now.count values.old.items) }
-    requires term { None ≡ child_list frame.now.item }
+    requires term { IsFalse (has_items frame.now.handle.table) }
     requires full { frame.now.count ≤ length values.old.items }
     ensures values { OnOk result
         (values.new.items ≡ take (length values.old.items - frame.now.count) values.old.items) }
     ensures goes { RebuildsFrame F.owned F.meaning F.hooks F.Error.from_gives
         frame.now (last_of frame.now.count values.old.items) cx.old folder.old result cx.new folder.new }
 {
-    let node = term_in(&frame.item);
-    let contents = cx.node_parts(node);
+    let contents = cx.node_parts(frame.handle);
     leave::<M, F>(cx, folder, contents.bound_vars)?;
     // The values are read where they are, and dropped once the term is stored.
     let parts = last_parts(values, frame.count);
-    let new_node = cx.store_like(node, parts)?;
+    let new_term = cx.store_like(frame.handle, parts)?;
     drop_values(values, frame.count);
-    Ok(as_item(&frame.item, new_node))
+    Ok(new_term)
 }
 
 // Returns the last values, the results of a term's children, as its parts.

@@ -15,7 +15,7 @@ use crate::foldable::TypeFoldable;
 use crate::folder::Step;
 use tt_index::Refusal;
 use tt_interner::Interner;
-use tt_kinds::{BoundVarKinds, Node, Region};
+use tt_kinds::{AnyHandle, BoundVarKinds, Region};
 
 /// A folder that replaces regions alone: it enters each term and each binder, so one method is enough. A fold is
 /// promised to be the walk of the folder's `hooks`: with the default, which promises nothing, nothing is known of the
@@ -64,7 +64,11 @@ impl<F: RegionReplacer> Core<Regions> for F {
     }
 
     #[inline(always)]
-    fn core_term(&mut self, _cx: &mut Interner, _node: Node) -> Result<Step<Node>, F::Error> {
+    fn core_term(
+        &mut self,
+        _cx: &mut Interner,
+        _handle: AnyHandle,
+    ) -> Result<Step<AnyHandle>, F::Error> {
         Ok(Step::Descend)
     }
 
@@ -72,9 +76,9 @@ impl<F: RegionReplacer> Core<Regions> for F {
     fn core_after_term(
         &mut self,
         _cx: &mut Interner,
-        _before: Node,
-        rebuilt: Node,
-    ) -> Result<Node, F::Error> {
+        _before: AnyHandle,
+        rebuilt: AnyHandle,
+    ) -> Result<AnyHandle, F::Error> {
         Ok(rebuilt)
     }
 

@@ -24,10 +24,10 @@ ghost use Rattle.tt_fold.specs.Walk.{Fails, Walks};
 use crate::core_folder::Core;
 use crate::foldable::TypeFoldable;
 use crate::folder::Step;
-use crate::step_of_node::{const_step, ty_step};
+use crate::step_of_handle::step_of;
 use tt_index::Refusal;
 use tt_interner::Interner;
-use tt_kinds::{BoundVarKinds, Const, Node, Region, Ty};
+use tt_kinds::{AnyHandle, BoundVarKinds, Const, Region, TermTable, Ty};
 
 /// A folder that replaces types, regions and constants, and is called at each binder. A fold is promised to be the walk
 /// of the folder's `hooks`: with the default, which promises nothing, nothing is known of the values that the fold puts
@@ -121,10 +121,14 @@ impl<F: Replacer> Core<AllSorts> for F {
     }
 
     #[inline(always)]
-    fn core_term(&mut self, cx: &mut Interner, node: Node) -> Result<Step<Node>, F::Error> {
-        match node {
-            Node::Ty(ty) => ty_step(self.replace_ty(cx, ty)),
-            Node::Const(constant) => const_step(self.replace_const(cx, constant)),
+    fn core_term(
+        &mut self,
+        cx: &mut Interner,
+        handle: AnyHandle,
+    ) -> Result<Step<AnyHandle>, F::Error> {
+        match handle.table {
+            TermTable::Types => step_of(self.replace_ty(cx, handle.typed())),
+            TermTable::Consts => step_of(self.replace_const(cx, handle.typed())),
             _ => Ok(Step::Descend),
         }
     }
@@ -133,9 +137,9 @@ impl<F: Replacer> Core<AllSorts> for F {
     fn core_after_term(
         &mut self,
         _cx: &mut Interner,
-        _before: Node,
-        rebuilt: Node,
-    ) -> Result<Node, F::Error> {
+        _before: AnyHandle,
+        rebuilt: AnyHandle,
+    ) -> Result<AnyHandle, F::Error> {
         Ok(rebuilt)
     }
 

@@ -39,7 +39,7 @@ use crate::memory::{Memory, look_up};
 use tt_index::{DebruijnIndex, Refusal};
 use tt_interner::{Flags, Interner};
 use tt_kinds::{
-    BoundConst, BoundTy, BoundVarIndexKind, BoundVarKinds, Clauses, Const, ConstKind, Kind, Node,
+    BoundConst, BoundTy, BoundVarIndexKind, BoundVarKinds, Clauses, Const, ConstKind, Kind,
     Predicate, Region, RegionKind, Ty, TyKind,
 };
 use tt_visit::TypeVisitableExt;
@@ -217,7 +217,7 @@ impl TypeFolder for Shifter {
         if !self.moves(ty.outer_exclusive_binder(cx)) {
             return Ok(Step::Keep);
         }
-        let kind = cx.node_kind(Node::Ty(ty));
+        let kind = cx.node_kind(ty.any());
         match bound_ty(&kind) {
             Some((index, bound_ty)) => {
                 let shifted = self.shift_bound_ty(cx, index, bound_ty)?;
@@ -244,7 +244,7 @@ impl TypeFolder for Shifter {
         if !self.moves(constant.outer_exclusive_binder(cx)) {
             return Ok(Step::Keep);
         }
-        let kind = cx.node_kind(Node::Const(constant));
+        let kind = cx.node_kind(constant.any());
         match bound_const(&kind) {
             Some((index, bound_const)) => {
                 let shifted = self.shift_bound_const(cx, index, bound_const)?;

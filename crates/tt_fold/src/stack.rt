@@ -4,32 +4,31 @@
 ghost use Rattle.std.specs.Prelude.{
   ◌≡◌,
   ◌<◌,
-  ◌-◌,
   ◌++◌,
   ◌∷◌,
   [],
   IfErr,
+  IsFalse,
   IsTrue,
   ◌↔◌,
-  None,
   length,
   OnOk,
   slice_get,
   Some,
 };
-ghost use Rattle.tt_kinds.specs.Kinds.{child_shapes};
+ghost use Rattle.tt_kinds.specs.Kinds.{handle_shape};
+ghost use Rattle.tt_kinds.specs.TermTable.{has_items};
 ghost use Rattle.tt_fold.specs.Walk.{Fails, HasUnwanted, InsideFails};
-ghost use Rattle.tt_fold.specs.Steps.{errors_of, Goes};
+ghost use Rattle.tt_fold.specs.Steps.{errors_of, Goes, IsPartOf};
 ghost use Rattle.tt_fold.specs.Still.{StaysStill};
 ghost use Rattle.tt_fold.specs.Parts.{
-  ArePartsOf,
   binder_in,
   child_trees,
   HasBinder,
-  IsChildFor,
   IsChildless,
+  IsStoredFor,
+  handle_tree,
 };
-ghost use Rattle.tt_fold.specs.Items.{child_list, child_node, child_shape, child_tree, IsWhole};
 ghost use Rattle.tt_index.specs.declared.refusal.Refusal.TheVariants.{Memory};
 ghost use Rattle.tt_fold.specs.Stack.{
   EnterFails,
@@ -39,7 +38,7 @@ ghost use Rattle.tt_fold.specs.Stack.{
   wanted_by,
 };
 ghost use Rattle.tt_fold.specs.Going.{
-  BeginsChild,
+  BeginsStored,
   children_in,
   FinishesItem,
   HasAdvanced,
@@ -58,21 +57,19 @@ ghost use Rattle.tt_fold.specs.Going.{
 
 use crate::core_folder::Core;
 use crate::folder::Step;
-use crate::items::{
-    as_item, check_item, hooked_in, is_absent, is_predicate, list_in, term_in, ty_in, tys_in,
-};
+use crate::items::{check_item, is_absent, is_hooked, is_predicate};
 use crate::rebuild::rebuild;
 use smallvec::SmallVec;
 use tt_index::Refusal;
 use tt_interner::Interner;
 use tt_interner::nodes::Contents;
-use tt_kinds::{BoundVarKinds, Child, List, Node, Parts};
+use tt_kinds::{AnyHandle, BoundVarKinds, Child, Parts, TermTable};
 
 // A term or a list whose children are walked.
 #[derive(Clone, Copy)]
 pub(crate) struct Frame {
     // The term or the list. Its children are read from its row.
-    pub(crate) item: Child,
+    pub(crate) handle: AnyHandle,
     // The number of children that are walked.
     pub(crate) count: usize,
     // The number of children that were begun.
@@ -82,16 +79,19 @@ pub(crate) struct Frame {
 impl Default for Frame {
     fn default() -> Frame {
         Frame {
-            item: Child::Absent,
+            handle: AnyHandle {
+                table: TermTable::Types,
+                number: 0,
+            },
             count: 0,
             next: 0,
         }
     }
 }
 
-// A child that was begun: its result, or the frame of its contents.
+// A term or a list that was begun: its result, or the frame of its contents.
 pub(crate) enum Begun {
-    Done(Child),
+    Done(AnyHandle),
     Inside(Frame),
 }
 
@@ -101,94 +101,45 @@ type Frames = SmallVec<Frame, 8>;
 // The results of the children of all frames. A few short lists need no allocation.
 pub(crate) type Values = SmallVec<Child, 16>;
 
-// Begins a child: calls its hook, and enters its binder. A term or a list is begun by a call.
-#[inline(always)]
-pub(crate) fn begin<M, F: Core<M>>(
-    cx: &mut Interner,
-    folder: &mut F,
-    child: &Child,
-) -> Result<Begun, F::Error>
-    requires owned { F.owned cx.old.rows folder.old }
-    requires child { ArePartsOf cx.old.rows (child_shapes child.now) }
-    ensures still { StaysStill F.hooks F.touches_nothing F.meaning (child_shape child.now) cx.old folder.old cx.new }
-    ensures goes { BeginsChild F.owned F.meaning F.hooks F.Error.from_gives
-        child.now cx.old folder.old result cx.new folder.new }
-{
-    match child {
-        Child::Absent => Ok(Begun::Done(Child::Absent)),
-        Child::Region(region) => {
-            let new_region = folder.core_region(cx, *region)?;
-            Ok(Begun::Done(Child::Region(new_region)))
-        }
-        _ => begin_by_call::<M, F>(cx, folder, child),
-    }
-}
-
-// Begins a term or a list of any table, by a call. The argument and the result are copied, so that neither needs a
-// place in memory in the loop's other arms. The called function isn't inlined: an inlined function clears its places in
-// memory when it is entered, even the places of arms that aren't taken.
-#[inline(always)]
-fn begin_by_call<M, F: Core<M>>(
-    cx: &mut Interner,
-    folder: &mut F,
-    item: &Child,
-) -> Result<Begun, F::Error>
-    requires owned { F.owned cx.old.rows folder.old }
-    requires item { ArePartsOf cx.old.rows (child_shapes item.now) }
-    requires whole { IsWhole item.now }
-    ensures still { StaysStill F.hooks F.touches_nothing F.meaning (child_shape item.now) cx.old folder.old cx.new }
-    ensures goes { BeginsChild F.owned F.meaning F.hooks F.Error.from_gives
-        item.now cx.old folder.old result cx.new folder.new }
-{
-    let copied = *item;
-    let begun = begin_other::<M, F>(cx, folder, &copied)?;
-    match begun {
-        Begun::Done(value) => Ok(Begun::Done(value)),
-        Begun::Inside(frame) => Ok(Begun::Inside(frame)),
-    }
-}
-
 // Begins a term or a list of any table, outside of the loop.
 #[inline(never)]
-fn begin_other<M, F: Core<M>>(
+pub(crate) fn begin_other<M, F: Core<M>>(
     cx: &mut Interner,
     folder: &mut F,
-    item: &Child,
+    handle: AnyHandle,
 ) -> Result<Begun, F::Error>
     requires owned { F.owned cx.old.rows folder.old }
-    requires item { ArePartsOf cx.old.rows (child_shapes item.now) }
-    requires whole { IsWhole item.now }
-    ensures still { StaysStill F.hooks F.touches_nothing F.meaning (child_shape item.now) cx.old folder.old cx.new }
-    ensures goes { BeginsChild F.owned F.meaning F.hooks F.Error.from_gives
-        item.now cx.old folder.old result cx.new folder.new }
+    requires handle { IsPartOf cx.old.rows (handle_shape handle) }
+    ensures still { StaysStill F.hooks F.touches_nothing F.meaning (handle_shape handle) cx.old folder.old cx.new }
+    ensures goes { BeginsStored F.owned F.meaning F.hooks F.Error.from_gives
+        handle cx.old folder.old result cx.new folder.new }
 {
-    begin_item::<M, F>(cx, folder, item)
+    begin_stored::<M, F>(cx, folder, handle)
 }
 
-// Begins a term or a list. A term without children is done at once.
+// Begins a term or a list: calls its hook, and enters its binder. A term without children is done at once.
 #[inline(always)]
-fn begin_item<M, F: Core<M>>(
+fn begin_stored<M, F: Core<M>>(
     cx: &mut Interner,
     folder: &mut F,
-    item: &Child,
+    handle: AnyHandle,
 ) -> Result<Begun, F::Error>
     requires owned { F.owned cx.old.rows folder.old }
-    requires item { ArePartsOf cx.old.rows (child_shapes item.now) }
-    requires whole { IsWhole item.now }
-    ensures still { StaysStill F.hooks F.touches_nothing F.meaning (child_shape item.now) cx.old folder.old cx.new }
-    ensures goes { BeginsChild F.owned F.meaning F.hooks F.Error.from_gives
-        item.now cx.old folder.old result cx.new folder.new }
+    requires handle { IsPartOf cx.old.rows (handle_shape handle) }
+    ensures still { StaysStill F.hooks F.touches_nothing F.meaning (handle_shape handle) cx.old folder.old cx.new }
+    ensures goes { BeginsStored F.owned F.meaning F.hooks F.Error.from_gives
+        handle cx.old folder.old result cx.new folder.new }
 {
-    let step = ask::<M, F>(cx, folder, item)?;
+    let step = ask::<M, F>(cx, folder, handle)?;
     match step {
         Step::Replace(new) => Ok(Begun::Done(new)),
-        Step::Keep => Ok(Begun::Done(*item)),
+        Step::Keep => Ok(Begun::Done(handle)),
         Step::Descend => {
-            let opened = open::<M, F>(cx, folder, item)?;
+            let opened = open::<M, F>(cx, folder, handle)?;
             match opened {
                 Some(frame) => Ok(Begun::Inside(frame)),
                 None => {
-                    let value = finish_by_call::<M, F>(cx, folder, item, *item)?;
+                    let value = finish_other::<M, F>(cx, folder, handle, handle)?;
                     Ok(Begun::Done(value))
                 }
             }
@@ -201,27 +152,20 @@ fn begin_item<M, F: Core<M>>(
 fn ask<M, F: Core<M>>(
     cx: &mut Interner,
     folder: &mut F,
-    item: &Child,
-) -> Result<Step<Child>, F::Error>
+    handle: AnyHandle,
+) -> Result<Step<AnyHandle>, F::Error>
     requires owned { F.owned cx.old.rows folder.old }
-    requires item { ArePartsOf cx.old.rows (child_shapes item.now) }
-    requires whole { IsWhole item.now }
-    ensures still { F.touches_nothing cx.old.rows folder.old (child_tree cx.old.rows item.now) → cx.new ≡ cx.old }
+    requires handle { IsPartOf cx.old.rows (handle_shape handle) }
+    ensures still { F.touches_nothing cx.old.rows folder.old (handle_tree cx.old.rows handle) → cx.new ≡ cx.old }
     ensures goes { Goes F.owned F.meaning
-        (IsAsked F.hooks (child_tree cx.old.rows item.now) item.now)
-        (λ s e s'. Fails F.hooks (errors_of F.Error.from_gives cx.new) s (child_tree cx.old.rows item.now) e s')
+        (IsAsked F.hooks (handle_tree cx.old.rows handle) handle)
+        (λ s e s'. Fails F.hooks (errors_of F.Error.from_gives cx.new) s (handle_tree cx.old.rows handle) e s')
         cx.old folder.old result cx.new folder.new }
 {
-    match hooked_in(item) {
-        None => Ok(Step::Descend),
-        Some(node) => {
-            let step = folder.core_term(cx, node)?;
-            match step {
-                Step::Replace(new) => Ok(Step::Replace(as_item(item, new))),
-                Step::Keep => Ok(Step::Keep),
-                Step::Descend => Ok(Step::Descend),
-            }
-        }
+    if is_hooked(handle.table) {
+        folder.core_term(cx, handle)
+    } else {
+        Ok(Step::Descend)
     }
 }
 
@@ -231,32 +175,31 @@ fn ask<M, F: Core<M>>(
 pub(crate) fn open<M, F: Core<M>>(
     cx: &mut Interner,
     folder: &mut F,
-    item: &Child,
+    handle: AnyHandle,
 ) -> Result<Option<Frame>, F::Error>
     requires owned { F.owned cx.old.rows folder.old }
-    requires item { ArePartsOf cx.old.rows (child_shapes item.now) }
-    requires whole { IsWhole item.now }
+    requires handle { IsPartOf cx.old.rows (handle_shape handle) }
     ensures { Goes F.owned F.meaning
-        (IsOpen F.hooks (child_tree cx.old.rows item.now) item.now)
-        (λ s e s'. InsideFails F.hooks (errors_of F.Error.from_gives cx.new) s (child_tree cx.old.rows item.now) e s')
+        (IsOpen F.hooks (handle_tree cx.old.rows handle) handle)
+        (λ s e s'. InsideFails F.hooks (errors_of F.Error.from_gives cx.new) s (handle_tree cx.old.rows handle) e s')
         cx.old folder.old result cx.new folder.new }
 {
-    match list_in(item) {
-        Some(list) => Ok(Some(list_frame(cx, item, list))),
-        None => open_term::<M, F>(cx, folder, item),
+    if handle.table.has_items() {
+        Ok(Some(list_frame(cx, handle)))
+    } else {
+        open_term::<M, F>(cx, folder, handle)
     }
 }
 
 // Returns the frame of a list, before its first child.
 #[inline(always)]
-fn list_frame(cx: &Interner, item: &Child, list: List) -> Frame
-    requires item { ArePartsOf cx.now.rows (child_shapes item.now) }
-    requires whole { IsWhole item.now }
-    requires list { Some list ≡ child_list item.now }
-    ensures { IsNewFrame cx.now.rows item.now result }
+fn list_frame(cx: &Interner, list: AnyHandle) -> Frame
+    requires list { IsPartOf cx.now.rows (handle_shape list) }
+    requires items { IsTrue (has_items list.table) }
+    ensures { IsNewFrame cx.now.rows list result }
 {
     Frame {
-        item: *item,
+        handle: list,
         count: cx.list_len(list),
         next: 0,
     }
@@ -267,24 +210,23 @@ fn list_frame(cx: &Interner, item: &Child, list: List) -> Frame
 fn open_term<M, F: Core<M>>(
     cx: &mut Interner,
     folder: &mut F,
-    item: &Child,
+    handle: AnyHandle,
 ) -> Result<Option<Frame>, F::Error>
     requires owned { F.owned cx.old.rows folder.old }
-    requires item { ArePartsOf cx.old.rows (child_shapes item.now) }
-    requires whole { IsWhole item.now }
-    requires term { None ≡ child_list item.now }
+    requires handle { IsPartOf cx.old.rows (handle_shape handle) }
+    requires term { IsFalse (has_items handle.table) }
     ensures { Goes F.owned F.meaning
-        (IsOpen F.hooks (child_tree cx.old.rows item.now) item.now)
-        (λ s e s'. InsideFails F.hooks (errors_of F.Error.from_gives cx.new) s (child_tree cx.old.rows item.now) e s')
+        (IsOpen F.hooks (handle_tree cx.old.rows handle) handle)
+        (λ s e s'. InsideFails F.hooks (errors_of F.Error.from_gives cx.new) s (handle_tree cx.old.rows handle) e s')
         cx.old folder.old result cx.new folder.new }
 {
-    let contents = cx.node_parts(term_in(item));
+    let contents = cx.node_parts(handle);
     if is_leaf(&contents) {
         return Ok(None);
     }
     enter::<M, F>(cx, folder, contents.bound_vars)?;
     Ok(Some(Frame {
-        item: *item,
+        handle,
         count: walked_count(&contents.parts),
         next: 0,
     }))
@@ -335,58 +277,36 @@ pub(crate) fn enter<M, F: Core<M>>(
 fn finish<M, F: Core<M>>(
     cx: &mut Interner,
     folder: &mut F,
-    before: &Child,
-    rebuilt: Child,
-) -> Result<Child, F::Error>
+    before: AnyHandle,
+    rebuilt: AnyHandle,
+) -> Result<AnyHandle, F::Error>
     requires owned { F.owned cx.old.rows folder.old }
-    requires before { ArePartsOf cx.old.rows (child_shapes before.now) }
-    requires whole { IsWhole before.now }
-    requires rebuilt { IsChildFor before.now cx.old.rows rebuilt }
+    requires before { IsPartOf cx.old.rows (handle_shape before) }
+    requires rebuilt { IsStoredFor before cx.old.rows rebuilt }
     ensures { FinishesItem F.owned F.meaning F.hooks F.Error.from_gives
-        before.now rebuilt cx.old folder.old result cx.new folder.new }
+        before rebuilt cx.old folder.old result cx.new folder.new }
 {
-    match before {
-        Child::Node(Node::Ty(_)) => finish_item::<M, F>(cx, folder, before, rebuilt),
-        Child::List(List::Tys(_)) => finish_item::<M, F>(cx, folder, before, rebuilt),
-        _ => finish_by_call::<M, F>(cx, folder, before, rebuilt),
+    match before.table {
+        TermTable::Types | TermTable::TypeLists => {
+            finish_item::<M, F>(cx, folder, before, rebuilt)
+        }
+        _ => finish_other::<M, F>(cx, folder, before, rebuilt),
     }
-}
-
-// Calls the hook after the contents of a term or a list of any table, by a call. The argument and the result are
-// copied, as in `begin_by_call`.
-#[inline(always)]
-pub(crate) fn finish_by_call<M, F: Core<M>>(
-    cx: &mut Interner,
-    folder: &mut F,
-    before: &Child,
-    rebuilt: Child,
-) -> Result<Child, F::Error>
-    requires owned { F.owned cx.old.rows folder.old }
-    requires before { ArePartsOf cx.old.rows (child_shapes before.now) }
-    requires whole { IsWhole before.now }
-    requires rebuilt { IsChildFor before.now cx.old.rows rebuilt }
-    ensures { FinishesItem F.owned F.meaning F.hooks F.Error.from_gives
-        before.now rebuilt cx.old folder.old result cx.new folder.new }
-{
-    let item = *before;
-    let finished = finish_other::<M, F>(cx, folder, &item, rebuilt)?;
-    Ok(finished)
 }
 
 // Calls the hook after the contents of a term or a list of any table, outside of the loop.
 #[inline(never)]
-fn finish_other<M, F: Core<M>>(
+pub(crate) fn finish_other<M, F: Core<M>>(
     cx: &mut Interner,
     folder: &mut F,
-    before: &Child,
-    rebuilt: Child,
-) -> Result<Child, F::Error>
+    before: AnyHandle,
+    rebuilt: AnyHandle,
+) -> Result<AnyHandle, F::Error>
     requires owned { F.owned cx.old.rows folder.old }
-    requires before { ArePartsOf cx.old.rows (child_shapes before.now) }
-    requires whole { IsWhole before.now }
-    requires rebuilt { IsChildFor before.now cx.old.rows rebuilt }
+    requires before { IsPartOf cx.old.rows (handle_shape before) }
+    requires rebuilt { IsStoredFor before cx.old.rows rebuilt }
     ensures { FinishesItem F.owned F.meaning F.hooks F.Error.from_gives
-        before.now rebuilt cx.old folder.old result cx.new folder.new }
+        before rebuilt cx.old folder.old result cx.new folder.new }
 {
     finish_item::<M, F>(cx, folder, before, rebuilt)
 }
@@ -396,22 +316,19 @@ fn finish_other<M, F: Core<M>>(
 fn finish_item<M, F: Core<M>>(
     cx: &mut Interner,
     folder: &mut F,
-    before: &Child,
-    rebuilt: Child,
-) -> Result<Child, F::Error>
+    before: AnyHandle,
+    rebuilt: AnyHandle,
+) -> Result<AnyHandle, F::Error>
     requires owned { F.owned cx.old.rows folder.old }
-    requires before { ArePartsOf cx.old.rows (child_shapes before.now) }
-    requires whole { IsWhole before.now }
-    requires rebuilt { IsChildFor before.now cx.old.rows rebuilt }
+    requires before { IsPartOf cx.old.rows (handle_shape before) }
+    requires rebuilt { IsStoredFor before cx.old.rows rebuilt }
     ensures { FinishesItem F.owned F.meaning F.hooks F.Error.from_gives
-        before.now rebuilt cx.old folder.old result cx.new folder.new }
+        before rebuilt cx.old folder.old result cx.new folder.new }
 {
-    match hooked_in(before) {
-        None => Ok(rebuilt),
-        Some(node) => {
-            let new = folder.core_after_term(cx, node, term_in(&rebuilt))?;
-            Ok(as_item(before, new))
-        }
+    if is_hooked(before.table) {
+        folder.core_after_term(cx, before, rebuilt)
+    } else {
+        Ok(rebuilt)
     }
 }
 
@@ -421,16 +338,16 @@ pub(crate) fn fold_frames<M, F: Core<M>>(
     cx: &mut Interner,
     folder: &mut F,
     first: Frame,
-) -> Result<Child, F::Error>
+) -> Result<AnyHandle, F::Error>
     requires owned { F.owned cx.old.rows folder.old }
     requires frame { IsFoldFrame cx.old.rows first }
     requires start { first.next ≡ 0 }
     ensures { Goes F.owned F.meaning
-        (λ rows y s s'. IsChildFor first.item rows y
-        × Rests F.hooks (outline_of cx.old.rows first.item) (left_of cx.old.rows first) s (child_tree rows y) s')
+        (λ rows y s s'. IsStoredFor first.handle rows y
+        × Rests F.hooks (outline_of cx.old.rows first.handle) (left_of cx.old.rows first) s (handle_tree rows y) s')
         (RestFails F.hooks
         (errors_of F.Error.from_gives cx.new)
-        (outline_of cx.old.rows first.item)
+        (outline_of cx.old.rows first.handle)
         (left_of cx.old.rows first))
         cx.old folder.old result cx.new folder.new }
 {
@@ -441,30 +358,35 @@ pub(crate) fn fold_frames<M, F: Core<M>>(
         if frame.next < frame.count {
             let child = next_child(cx, &frame);
             frame.next += 1;
-            match (ty_in(&child), tys_in(&child)) {
-                (Some(ty), _) => {
-                    let item = Child::Node(Node::Ty(ty));
-                    let begun = begin_item::<M, F>(cx, folder, &item)?;
-                    advance(cx, &mut frames, &mut frame, &mut values, begun)?;
+            match child {
+                Child::Stored(handle) => match handle.table {
+                    TermTable::Types => {
+                        let begun = begin_stored::<M, F>(cx, folder, handle)?;
+                        advance(cx, &mut frames, &mut frame, &mut values, begun)?;
+                    }
+                    TermTable::TypeLists => {
+                        let begun = Begun::Inside(list_frame(cx, handle));
+                        advance(cx, &mut frames, &mut frame, &mut values, begun)?;
+                    }
+                    _ => {
+                        let begun = begin_other::<M, F>(cx, folder, handle)?;
+                        advance(cx, &mut frames, &mut frame, &mut values, begun)?;
+                    }
+                },
+                Child::Region(region) => {
+                    let new_region = folder.core_region(cx, region)?;
+                    keep(cx, &frame, &mut values, Child::Region(new_region))?;
                 }
-                (None, Some(tys)) => {
-                    let list = List::Tys(tys);
-                    let begun = Begun::Inside(list_frame(cx, &Child::List(list), list));
-                    advance(cx, &mut frames, &mut frame, &mut values, begun)?;
-                }
-                (None, None) => {
-                    let begun = begin::<M, F>(cx, folder, &child)?;
-                    advance(cx, &mut frames, &mut frame, &mut values, begun)?;
-                }
+                Child::Absent => keep(cx, &frame, &mut values, Child::Absent)?,
             }
         } else {
             let rebuilt = rebuild::<M, F>(cx, folder, &frame, &mut values)?;
             match frames.pop() {
                 None => return Ok(rebuilt),
                 Some(outer) => {
-                    let value = finish::<M, F>(cx, folder, &frame.item, rebuilt)?;
+                    let value = finish::<M, F>(cx, folder, frame.handle, rebuilt)?;
                     frame = outer;
-                    keep(cx, &frame, &mut values, value)?;
+                    keep(cx, &frame, &mut values, Child::Stored(value))?;
                 }
             }
         }
@@ -478,9 +400,9 @@ fn next_child(cx: &Interner, frame: &Frame) -> Child
     requires more { frame.now.next < frame.now.count }
     ensures { slice_get (children_in cx.now.rows frame.now) frame.now.next ≡ Some result }
 {
-    match &frame.item {
-        Child::Node(Node::Ty(ty)) => term_child(cx, frame, Node::Ty(*ty)),
-        Child::List(List::Tys(tys)) => cx.list_child(List::Tys(*tys), frame.next),
+    match frame.handle.table {
+        TermTable::Types => term_child(cx, frame),
+        TermTable::TypeLists => cx.list_child(frame.handle, frame.next),
         _ => child_by_call(cx, frame),
     }
 }
@@ -499,14 +421,13 @@ fn child_by_call(cx: &Interner, frame: &Frame) -> Child
 
 // Returns the child of a term that is begun next.
 #[inline(always)]
-fn term_child(cx: &Interner, frame: &Frame, node: Node) -> Child
+fn term_child(cx: &Interner, frame: &Frame) -> Child
     requires frame { IsFoldFrame cx.now.rows frame.now }
     requires more { frame.now.next < frame.now.count }
-    requires term { None ≡ child_list frame.now.item }
-    requires node { node ≡ child_node frame.now.item }
+    requires term { IsFalse (has_items frame.now.handle.table) }
     ensures { slice_get (children_in cx.now.rows frame.now) frame.now.next ≡ Some result }
 {
-    let contents = cx.node_parts(node);
+    let contents = cx.node_parts(frame.handle);
     if frame.next == 0 {
         contents.parts.first
     } else {
@@ -522,9 +443,10 @@ fn other_child(cx: &Interner, frame: &Frame) -> Child
     requires more { frame.now.next < frame.now.count }
     ensures { slice_get (children_in cx.now.rows frame.now) frame.now.next ≡ Some result }
 {
-    match list_in(&frame.item) {
-        Some(list) => cx.list_child(list, frame.next),
-        None => term_child(cx, frame, term_in(&frame.item)),
+    if frame.handle.table.has_items() {
+        cx.list_child(frame.handle, frame.next)
+    } else {
+        term_child(cx, frame)
     }
 }
 
@@ -551,7 +473,7 @@ fn advance(
     ensures stuck { IfErr result (IsStuck cx.now.rows frame.old begun) }
 {
     match begun {
-        Begun::Done(value) => keep(cx, frame, values, value),
+        Begun::Done(value) => keep(cx, frame, values, Child::Stored(value)),
         Begun::Inside(inner) => {
             suspend(frames, frame)?;
             *frame = inner;
@@ -567,16 +489,14 @@ fn keep(cx: &Interner, frame: &Frame, values: &mut Values, value: Child) -> Resu
     requires child { IsResult cx.now.rows frame.now value }
     ensures kept { OnOk result (values.new.items ≡ values.old.items ++ value ∷ []) }
     ensures wanted { OnOk result
-        (HasUnwanted (wanted_by (outline_of cx.now.rows frame.now.item)) (child_trees cx.now.rows value) → ⊥) }
+        (HasUnwanted (wanted_by (outline_of cx.now.rows frame.now.handle)) (child_trees cx.now.rows value) → ⊥) }
     ensures failed { IfErr result
-        (IsNotKept (wanted_by (outline_of cx.now.rows frame.now.item)) (child_trees cx.now.rows value)) }
+        (IsNotKept (wanted_by (outline_of cx.now.rows frame.now.handle)) (child_trees cx.now.rows value)) }
 {
     // Only predicates are items of lists of clauses. Where this function is inlined, the sort of the value is mostly
     // known.
-    if is_predicate(&value) {
-        if let Some(list) = list_in(&frame.item) {
-            check_item(cx, list.sort(), &value)?;
-        }
+    if is_predicate(&value) && frame.handle.table.has_items() {
+        check_item(cx, frame.handle.table, &value)?;
     }
     values.push(value)?;
     Ok(())
@@ -593,7 +513,7 @@ fn suspend(frames: &mut Frames, frame: &Frame) -> Result<(), Refusal>
         frames.reserve(1)?;
     }
     frames.push_reserved(Frame {
-        item: frame.item,
+        handle: frame.handle,
         count: frame.count,
         next: frame.next,
     });

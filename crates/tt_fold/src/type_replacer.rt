@@ -13,10 +13,10 @@ ghost use Rattle.tt_fold.specs.Walk.{Fails, Walks};
 use crate::core_folder::Core;
 use crate::foldable::TypeFoldable;
 use crate::folder::Step;
-use crate::step_of_node::ty_step;
+use crate::step_of_handle::step_of;
 use tt_index::Refusal;
 use tt_interner::Interner;
-use tt_kinds::{BoundVarKinds, Node, Region, Ty};
+use tt_kinds::{AnyHandle, BoundVarKinds, Region, TermTable, Ty};
 
 /// A folder that replaces types alone: it keeps regions, and enters each other term and each binder, so one method is
 /// enough. A fold is promised to be the walk of the folder's `hooks`: with the default, which promises nothing, nothing
@@ -66,9 +66,13 @@ impl<F: TypeReplacer> Core<Types> for F {
     }
 
     #[inline(always)]
-    fn core_term(&mut self, cx: &mut Interner, node: Node) -> Result<Step<Node>, F::Error> {
-        match node {
-            Node::Ty(ty) => ty_step(self.replace_ty(cx, ty)),
+    fn core_term(
+        &mut self,
+        cx: &mut Interner,
+        handle: AnyHandle,
+    ) -> Result<Step<AnyHandle>, F::Error> {
+        match handle.table {
+            TermTable::Types => step_of(self.replace_ty(cx, handle.typed())),
             _ => Ok(Step::Descend),
         }
     }
@@ -77,9 +81,9 @@ impl<F: TypeReplacer> Core<Types> for F {
     fn core_after_term(
         &mut self,
         _cx: &mut Interner,
-        _before: Node,
-        rebuilt: Node,
-    ) -> Result<Node, F::Error> {
+        _before: AnyHandle,
+        rebuilt: AnyHandle,
+    ) -> Result<AnyHandle, F::Error> {
         Ok(rebuilt)
     }
 

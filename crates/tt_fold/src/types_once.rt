@@ -10,10 +10,10 @@ use crate::core_folder::Core;
 use crate::foldable::TypeFoldable;
 use crate::folder::Step;
 use crate::memory::{Memory, look_up};
-use crate::step_of_node::ty_step;
+use crate::step_of_handle::step_of;
 use crate::type_replacer::TypeReplacer;
 use tt_interner::Interner;
-use tt_kinds::{BoundVarKinds, Node, Region};
+use tt_kinds::{AnyHandle, BoundVarKinds, Region, TermTable};
 
 // A folder of types, and the results of the types that were taken apart.
 #[derive(Drop)]
@@ -55,12 +55,16 @@ impl<F: TypeReplacer> Core<Once> for Recalling<F> {
     }
 
     #[inline(always)]
-    fn core_term(&mut self, cx: &mut Interner, node: Node) -> Result<Step<Node>, F::Error> {
-        match node {
+    fn core_term(
+        &mut self,
+        cx: &mut Interner,
+        handle: AnyHandle,
+    ) -> Result<Step<AnyHandle>, F::Error> {
+        match handle.table {
             // No hook depends on binders, so every type is looked up and noted as one under no binder.
-            Node::Ty(ty) => match look_up(cx, &self.memory, ty, 0) {
-                Some(after) => Ok(Step::Replace(Node::Ty(after))),
-                None => ty_step(self.folder.replace_ty(cx, ty)),
+            TermTable::Types => match look_up(cx, &self.memory, handle.typed(), 0) {
+                Some(after) => Ok(Step::Replace(after.any())),
+                None => step_of(self.folder.replace_ty(cx, handle.typed())),
             },
             _ => Ok(Step::Descend),
         }
@@ -70,12 +74,12 @@ impl<F: TypeReplacer> Core<Once> for Recalling<F> {
     fn core_after_term(
         &mut self,
         _cx: &mut Interner,
-        before: Node,
-        rebuilt: Node,
-    ) -> Result<Node, F::Error> {
-        match before {
-            Node::Ty(ty) => {
-                self.memory.note(ty, 0, rebuilt.ty())?;
+        before: AnyHandle,
+        rebuilt: AnyHandle,
+    ) -> Result<AnyHandle, F::Error> {
+        match before.table {
+            TermTable::Types => {
+                self.memory.note(before.typed(), 0, rebuilt.typed())?;
                 Ok(rebuilt)
             }
             _ => Ok(rebuilt),

@@ -2,8 +2,9 @@
 //!
 //! The walk reads the parts of kinds, so it has no code for any single kind.
 
-ghost use Rattle.std.specs.Prelude.{Some};
-ghost use Rattle.tt_kinds.specs.Kinds.{child_shapes, list_shape, node_shape, parts_shapes};
+ghost use Rattle.std.specs.Prelude.{IsTrue, Some};
+ghost use Rattle.tt_kinds.specs.TermTable.{is_term};
+ghost use Rattle.tt_kinds.specs.Kinds.{child_shapes, parts_shapes, handle_shape};
 ghost use Rattle.tt_fold.specs.Walk.{
   any_trees,
   ChildFails,
@@ -26,36 +27,32 @@ ghost use Rattle.tt_fold.specs.Parts.{
   child_trees,
   HasBinder,
   IsChildFor,
-  IsListFor,
-  IsNodeFor,
-  list_tree,
-  node_tree,
+  IsStoredFor,
   parts_trees,
+  handle_tree,
 };
 
-use crate::calls::{LEVELS, fold_within};
+use crate::calls::{LEVELS, fold_stored_within, fold_within};
 use crate::core_folder::Core;
-use crate::items::{list_of, term_in};
 use crate::stack::{fold_frames, open};
 use tt_interner::Interner;
-use tt_kinds::{BoundVarKinds, Child, List, Node, Parts};
+use tt_kinds::{AnyHandle, BoundVarKinds, Child, Parts};
 
-// Walks a stored term. This function is inlined, so that a type whose hook replaces or keeps it costs no call.
+// Walks a stored term or list. This function is inlined, so that a type whose hook replaces or keeps it costs no call.
 #[inline(always)]
-pub(crate) fn fold_node<M, F: Core<M>>(
+pub(crate) fn fold_stored<M, F: Core<M>>(
     cx: &mut Interner,
     folder: &mut F,
-    node: Node,
-) -> Result<Node, F::Error>
+    handle: AnyHandle,
+) -> Result<AnyHandle, F::Error>
     requires owned { F.owned cx.old.rows folder.old }
-    requires node { IsPartOf cx.old.rows (node_shape node) }
-    ensures still { StaysStill F.hooks F.touches_nothing F.meaning (node_shape node) cx.old folder.old cx.new }
-    ensures folds { Folds F.owned F.meaning (IsNodeFor node) node_tree
+    requires handle { IsPartOf cx.old.rows (handle_shape handle) }
+    ensures still { StaysStill F.hooks F.touches_nothing F.meaning (handle_shape handle) cx.old folder.old cx.new }
+    ensures folds { Folds F.owned F.meaning (IsStoredFor handle) handle_tree
         (Walks F.hooks) (Fails F.hooks (errors_of F.Error.from_gives cx.new))
-        cx.old folder.old node result cx.new folder.new }
+        cx.old folder.old handle result cx.new folder.new }
 {
-    let folded = fold_child::<M, F>(cx, folder, Child::Node(node))?;
-    Ok(term_in(&folded))
+    fold_stored_within::<M, F>(cx, folder, handle, LEVELS)
 }
 
 // Walks the contents of a term, and returns the term with their results.
@@ -63,21 +60,19 @@ pub(crate) fn fold_node<M, F: Core<M>>(
 pub(crate) fn fold_inside<M, F: Core<M>>(
     cx: &mut Interner,
     folder: &mut F,
-    node: Node,
-) -> Result<Node, F::Error>
+    handle: AnyHandle,
+) -> Result<AnyHandle, F::Error>
     requires owned { F.owned cx.old.rows folder.old }
-    requires node { IsPartOf cx.old.rows (node_shape node) }
-    ensures { Folds F.owned F.meaning (IsNodeFor node) node_tree
+    requires handle { IsPartOf cx.old.rows (handle_shape handle) }
+    requires term { IsTrue (is_term handle.table) }
+    ensures { Folds F.owned F.meaning (IsStoredFor handle) handle_tree
         (WalksInside F.hooks) (InsideFails F.hooks (errors_of F.Error.from_gives cx.new))
-        cx.old folder.old node result cx.new folder.new }
+        cx.old folder.old handle result cx.new folder.new }
 {
-    let opened = open::<M, F>(cx, folder, &Child::Node(node))?;
+    let opened = open::<M, F>(cx, folder, handle)?;
     match opened {
-        None => Ok(node),
-        Some(frame) => {
-            let rebuilt = fold_frames::<M, F>(cx, folder, frame)?;
-            Ok(term_in(&rebuilt))
-        }
+        None => Ok(handle),
+        Some(frame) => fold_frames::<M, F>(cx, folder, frame),
     }
 }
 
@@ -157,20 +152,4 @@ pub(crate) fn fold_child<M, F: Core<M>>(
         cx.old folder.old child result cx.new folder.new }
 {
     fold_within::<M, F>(cx, folder, &child, LEVELS)
-}
-
-// Walks a stored list. A list of clauses has a hook.
-pub(crate) fn fold_list<M, F: Core<M>>(
-    cx: &mut Interner,
-    folder: &mut F,
-    list: List,
-) -> Result<List, F::Error>
-    requires owned { F.owned cx.old.rows folder.old }
-    requires list { IsPartOf cx.old.rows (list_shape list) }
-    ensures { Folds F.owned F.meaning (IsListFor list) list_tree
-        (Walks F.hooks) (Fails F.hooks (errors_of F.Error.from_gives cx.new))
-        cx.old folder.old list result cx.new folder.new }
-{
-    let folded = fold_child::<M, F>(cx, folder, Child::List(list))?;
-    Ok(list_of(folded))
 }

@@ -21,7 +21,8 @@ use Rattle.tt_kinds.specs.Kinds.{clause_shape, children_shapes, clause_form, pre
 use Rattle.tt_interner.specs.Rows.{Row, predicate_row, clauses_row, table, size, meaning, AreRows, IsClause, AreClauses}
 use Rattle.tt_interner.specs.Rows.{IsWellFormed}
 use Rattle.tt_interner.specs.Clauses.{is_clause_tree, HasOther}
-use Rattle.tt_interner.specs.Children.{clause_child}
+use Rattle.tt_kinds.specs.Parts.{child_in}
+use Rattle.tt_kinds.specs.declared.table.TermTable.TheVariants as terms_of
 use Rattle.tt_interner.specs.Stored.{IsAt}
 use Rattle.tt_interner.proofs.RowLaws.{place_cases, row-old, size-more, meaning-old}
 use Rattle.tt_interner.proofs.Trees.{Means-row, row_at_newest}
@@ -32,19 +33,19 @@ clauses_in_range rows [] h = tt
 clauses_in_range rows (c ∷ cs) h = (h.0.within, clauses_in_range rows cs h.1)
 
 -- none of them is another predicate
-pub no_other : (rows : List Row) (cs : List Clause) → AreClauses rows cs → HasOther (fill_all (meaning rows) (children_shapes (map clause_child cs))) → ⊥
+pub no_other : (rows : List Row) (cs : List Clause) → AreClauses rows cs → HasOther (fill_all (meaning rows) (children_shapes (map (child_in terms_of.Predicates) cs))) → ⊥
 unfolding fill
 no_other rows [] h o = o
 no_other rows (c ∷ cs) h o = ⊎_elim (λ bad. false≢true (sym (ap not h.0.clause) ∙ bad)) (no_other rows cs h.1) o
 
 -- where not all are clauses, one is another predicate
-pub other_there : (rows : List Row) (cs : List Clause) → AreParts (size rows) (item_shapes clause_shape cs) → (AreClauses rows cs → ⊥) → HasOther (fill_all (meaning rows) (children_shapes (map clause_child cs)))
+pub other_there : (rows : List Row) (cs : List Clause) → AreParts (size rows) (item_shapes clause_shape cs) → (AreClauses rows cs → ⊥) → HasOther (fill_all (meaning rows) (children_shapes (map (child_in terms_of.Predicates) cs)))
 unfolding fill
 other_there rows [] p not_all = absurd (not_all tt)
 other_there rows (c ∷ cs) p not_all = by (is_clause_tree (meaning rows Predicates c.number)) refl (other_there rows cs p.1)
   where
-    by : (b : Bool) → is_clause_tree (meaning rows Predicates c.number) ≡ b → ((AreClauses rows cs → ⊥) → HasOther (fill_all (meaning rows) (children_shapes (map clause_child cs))))
-        → HasOther (fill_all (meaning rows) (children_shapes (map clause_child (c ∷ cs))))
+    by : (b : Bool) → is_clause_tree (meaning rows Predicates c.number) ≡ b → ((AreClauses rows cs → ⊥) → HasOther (fill_all (meaning rows) (children_shapes (map (child_in terms_of.Predicates) cs))))
+        → HasOther (fill_all (meaning rows) (children_shapes (map (child_in terms_of.Predicates) (c ∷ cs))))
     by false e rest = inl (ap not e)
     by true e rest = inr (rest (λ h. not_all (record { within = p.0; clause = e }, h)))
 

@@ -25,9 +25,8 @@ use Rattle.tt_kinds.specs.Shape.{Shape, Shapes, param, bound, region, term, node
 use Rattle.tt_kinds.specs.Shape.{Meaning, Sizes, text_of, items_of, items_in, name_of, rename_region, rename_kind}
 use Rattle.tt_kinds.specs.Shape.{rename_free, rename_record, rename_label, fill, fill_all, IsNamed, IsNamedKind}
 use Rattle.tt_kinds.specs.Shape.{AreNamedKinds, IsNamedFree, IsNamedRecord, IsNamedLabel, IsPart, AreParts, HasParts}
-use Rattle.tt_kinds.specs.Parts.{node_table, node_number, list_table, list_number}
-use Rattle.tt_kinds.specs.declared.parts.Node.{Node}
-use Rattle.tt_kinds.specs.declared.parts.List.{List as StoredList}
+use Rattle.tt_kinds.specs.TermTable.{term_table}
+use Rattle.tt_kinds.specs.declared.handle.AnyHandle.{AnyHandle}
 use Rattle.tt_interner.specs.Rows.{Row, text_row, row_table, table, size, meaning, Grows}
 use Rattle.tt_interner.specs.Children.{children_of, children_at}
 use Rattle.tt_interner.specs.Nodes.{row_kind, stored_kind}
@@ -320,14 +319,14 @@ module _ (old new : List Row) (g : Grows old new) where
   row-grows s h = row-same (meaning new) (meaning old) (size old) meaning-grows s h
 
 -- a list keeps its children
-pub children_at-grows : (old new : List Row) → Grows old new → (l : StoredList) → list_number l < size old (list_table l) → children_at new l ≡ children_at old l
+pub children_at-grows : (old new : List Row) → Grows old new → (l : AnyHandle) → l.number < size old (term_table l.table) → children_at new l ≡ children_at old l
 unfolding children_at
-children_at-grows old new g l h = ap children_of (rw g.kept (get_or-keeps g.more old (list_table l) (list_number l) (text_row []) h))
+children_at-grows old new g l h = ap children_of (rw g.kept (get_or-keeps g.more old (term_table l.table) l.number (text_row []) h))
 
 -- a term keeps its kind
-pub stored_kind-grows : (old new : List Row) → Grows old new → (n : Node) → node_number n < size old (node_table n) → stored_kind new n ≡ stored_kind old n
+pub stored_kind-grows : (old new : List Row) → Grows old new → (n : AnyHandle) → n.number < size old (term_table n.table) → stored_kind new n ≡ stored_kind old n
 unfolding stored_kind
-stored_kind-grows old new g n h = ap row_kind (rw g.kept (get_or-keeps g.more old (node_table n) (node_number n) (text_row []) h))
+stored_kind-grows old new g n h = ap row_kind (rw g.kept (get_or-keeps g.more old (term_table n.table) n.number (text_row []) h))
 
 -- a row keeps its number
 pub IsAt-grows : (old new : List Row) → Grows old new → (r : Row) (n : ℕ) → IsAt old r n → IsAt new r n

@@ -1,7 +1,7 @@
 -- What is kept beside a term, from what is kept beside its parts.
 use Rattle.std.proofs.Common.{◌≡◌, ℕ, zero, suc, ◌+◌, ◌-◌, ◌<◌, ◌≤◌, List, [], ◌∷◌, length, get_or, drop, max, bit_or}
 use Rattle.std.proofs.Common.{Some, None, refl, sym, ap, ◌∙◌, arith}
-use Rattle.std.specs.Prelude.{map}
+use Rattle.std.specs.Prelude.{map, IsTrue}
 use Rattle.std.proofs.Math.Numerals.{add-one}
 use Rattle.std.proofs.Math.Seq.{drop-cons}
 use Rattle.std.proofs.Math.ListN.{drop_of_length-le}
@@ -25,6 +25,10 @@ use Rattle.tt_kinds.specs.Shape.{name_of, rename_kind, rename_record, rename_lab
 use Rattle.tt_kinds.specs.Shape.{AreParts, HasParts, IsTooDeep}
 use Rattle.tt_kinds.specs.Kinds.{Form, param, bound, plain, under, form_parts, form_binder, form_shape, parts_shapes}
 use Rattle.tt_kinds.proofs.PlainLaws.{outer_binder-binder}
+use Rattle.tt_kinds.specs.TermTable.{term_table}
+use Rattle.tt_kinds.specs.declared.table.TermTable.{TermTable}
+use Rattle.tt_kinds.specs.declared.table.TermTable.TheVariants as terms_of
+use Rattle.tt_interner.specs.Info.{keeps_info}
 use Rattle.tt_interner.specs.Stored.{IsInfo}
 use Rattle.tt_interner.specs.Tables.{AreInfosOf, AreJoined}
 use Rattle.tt_kinds.specs.OwnFlags.{own_flags, own_reach}
@@ -91,6 +95,20 @@ module _ (f : Meaning) (info : FlagComputation) where
   pub infos_stored : (t : Table) (n : ℕ) → IsInfo info (f t n) → AreInfosOf info (fill_all f (also (stored t n) none))
   unfolding fill
   infos_stored t n is = infos_one (stored t n) is
+
+-- the tables of terms keep the information of their rows
+pub terms_keep_info : (t : TermTable) → IsTrue (keeps_info (term_table t))
+terms_keep_info terms_of.Types = refl
+terms_keep_info terms_of.Consts = refl
+terms_keep_info terms_of.Patterns = refl
+terms_keep_info terms_of.Predicates = refl
+terms_keep_info terms_of.Existentials = refl
+terms_keep_info terms_of.ClauseLists = refl
+terms_keep_info terms_of.TypeLists = refl
+terms_keep_info terms_of.ConstLists = refl
+terms_keep_info terms_of.ArgLists = refl
+terms_keep_info terms_of.PatternLists = refl
+terms_keep_info terms_of.ExistentialLists = refl
 
 -- no children
 pub infos_none : (f : Meaning) → AreInfosOf (computed 0 0) (fill_all f none)

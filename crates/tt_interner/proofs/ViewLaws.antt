@@ -40,8 +40,7 @@ arg_no_view (arg.Const c) = tt
 child_no_views : (c : Child) → HaveNoViews (child_shapes c)
 child_no_views child.Absent = tt
 child_no_views (child.Region r) = (region_no_view r, tt)
-child_no_views (child.Node n) = (tt, tt)
-child_no_views (child.List l) = (tt, tt)
+child_no_views (child.Stored r) = (tt, tt)
 
 append_no_views : (ss us : Shapes) → HaveNoViews ss → HaveNoViews us → HaveNoViews (append ss us)
 append_no_views none us h k = k

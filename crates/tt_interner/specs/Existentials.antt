@@ -10,7 +10,7 @@ use Rattle.tt_kinds.specs.declared.binder.Binder.{Binder}
 use Rattle.tt_kinds.specs.declared.existential.ExistentialPredicate.{ExistentialPredicate}
 use Rattle.tt_kinds.specs.Handle.{PolyExistentialPredicate}
 use Rattle.tt_kinds.specs.Handle.{BoundExistentialPredicates}
-use Rattle.tt_kinds.specs.declared.parts.ListSort.TheVariants as sort
+use Rattle.tt_kinds.specs.declared.table.TermTable.TheVariants as terms_of
 use Rattle.tt_kinds.specs.declared.table.Table.TheVariants.{Existentials, ExistentialLists}
 use Rattle.tt_interner.specs.Rows.{Row, existential_row, existentials_row, row_table, size, meaning, IsNew}
 use Rattle.tt_interner.specs.Stored.{Terms, Extends, IsAt, Stores, Builds, LacksItems}
@@ -21,7 +21,7 @@ HaveParts rows ps = All (λ p. HasParts (size rows) (existential_kind_shape p)) 
 
 -- the tree of the list of these predicates
 abbrev pub predicates_tree : List Row → List (Binder ExistentialPredicate) → Tree Depth
-predicates_tree rows ps = items_tree sort.Existentials (fill_all (meaning rows) (item_shapes existential_kind_shape ps))
+predicates_tree rows ps = items_tree terms_of.ExistentialLists (fill_all (meaning rows) (item_shapes existential_kind_shape ps))
 
 -- the rows are all of existential predicates
 abbrev pub AreExistentials : List Row → Type 0

@@ -1,12 +1,12 @@
 -- The kind of a stored term, and a term like it with other children.
 use Rattle.std.specs.Prelude.{◌≡◌, List, [], get_or, Result, IfOk}
 use Rattle.tt_index.specs.declared.refusal.Refusal.{Refusal}
-use Rattle.tt_kinds.specs.Parts.{node_table, node_number}
 use Rattle.tt_kinds.specs.Kinds.{refilled, kind_form, kind_table}
 use Rattle.tt_kinds.specs.declared.ty_kind.TyKind.TheVariants as ty
 use Rattle.tt_kinds.specs.declared.parts.Kind.{Kind}
 use Rattle.tt_kinds.specs.declared.parts.Kind.TheVariants as kind
-use Rattle.tt_kinds.specs.declared.parts.Node.{Node}
+use Rattle.tt_kinds.specs.TermTable.{term_table}
+use Rattle.tt_kinds.specs.declared.handle.AnyHandle.{AnyHandle}
 use Rattle.tt_kinds.specs.declared.parts.Parts.{Parts}
 use Rattle.tt_interner.specs.Rows.{Row, type_row, const_row, pat_row, predicate_row, existential_row, text_row}
 use Rattle.tt_interner.specs.Rows.{kind_row, table}
@@ -22,13 +22,13 @@ row_kind (existential_row p) = kind.Existential p
 row_kind _ = kind.Ty ty.Never
 
 -- the kind of a stored term
-unfoldable pub stored_kind : List Row → Node → Kind
-stored_kind rows n = row_kind (get_or (table (node_table n) rows) (node_number n) (text_row []))
+unfoldable pub stored_kind : List Row → AnyHandle → Kind
+stored_kind rows n = row_kind (get_or (table (term_table n.table) rows) n.number (text_row []))
 
 -- the result is the term that has these children and is otherwise like n, which is added if it is new
-pub record BuildsLike (result : Result Node Refusal) (old new : Terms) (n : Node) (p : Parts) : Type 0 where
+pub record BuildsLike (result : Result AnyHandle Refusal) (old new : Terms) (n : AnyHandle) (p : Parts) : Type 0 where
   pub kind : Kind
-  pub table : kind_table kind ≡ node_table n
+  pub table : kind_table kind ≡ n.table
   pub form : kind_form kind ≡ refilled p (kind_form (stored_kind old.rows n))
-  pub builds : Builds result node_number old new (kind_row kind)
-  pub of_table : IfOk result (λ u. node_table u ≡ node_table n)
+  pub builds : Builds result (λ u. u.number) old new (kind_row kind)
+  pub of_table : IfOk result (λ u. u.table ≡ n.table)

@@ -7,10 +7,10 @@ use Rattle.tt_index.specs.declared.refusal.Refusal.TheVariants.{Memory, TableFul
 use Rattle.tt_kinds.specs.Label.{Name, clause_list_label}
 use Rattle.tt_kinds.specs.Tree as tree
 use Rattle.tt_kinds.specs.Tree.{Tree, Depth}
-use Rattle.tt_kinds.specs.Parts.{list_number, list_sort, sort_list_table}
 use Rattle.tt_kinds.specs.Kinds.{children_shapes, items_tree}
-use Rattle.tt_kinds.specs.declared.parts.List.{List as StoredList}
-use Rattle.tt_kinds.specs.declared.parts.ListSort.{ListSort}
+use Rattle.tt_kinds.specs.TermTable.{term_table}
+use Rattle.tt_kinds.specs.declared.handle.AnyHandle.{AnyHandle}
+use Rattle.tt_kinds.specs.declared.table.TermTable.{TermTable}
 use Rattle.tt_kinds.specs.declared.parts.Child.{Child}
 use Rattle.tt_kinds.specs.Scan.{scan}
 use Rattle.tt_kinds.specs.Reading.{outer_binder}
@@ -142,8 +142,8 @@ IsUnbuilt terms u NotAClause = IsNoClauseList u
 IsUnbuilt terms u _ = ⊥
 
 -- the tree of the list of these children
-abbrev pub children_tree : List Row → ListSort → List Child → Tree Depth
-children_tree rows sort items = items_tree sort (fill_all (meaning rows) (children_shapes items))
+abbrev pub children_tree : List Row → TermTable → List Child → Tree Depth
+children_tree rows t items = items_tree t (fill_all (meaning rows) (children_shapes items))
 
 -- how many items of a list are collected without allocation
 abbrev pub most_in_place : ℕ
@@ -154,22 +154,22 @@ abbrev pub LacksItems : {H A : Type 0} → Result H Refusal → List A → Type 
 LacksItems result items = (most_in_place < length items) × (result ≡ Err Memory)
 
 -- the result is the list of these children, which is added if it is new
-pub record StoresList (result : Result StoredList Refusal) (old new : Terms) (sort : ListSort) (items : List Child)
+pub record StoresList (result : Result AnyHandle Refusal) (old new : Terms) (t : TermTable) (items : List Child)
     : Type 0 where
-  pub in_range : IfOk result (λ l. list_number l < size new.rows (sort_list_table sort))
-  pub means : IfOk result (λ l. meaning new.rows (sort_list_table sort) (list_number l)
-      ≡ items_tree sort (fill_all (meaning old.rows) (children_shapes items)))
+  pub in_range : IfOk result (λ l. l.number < size new.rows (term_table t))
+  pub means : IfOk result (λ l. meaning new.rows (term_table t) l.number
+      ≡ items_tree t (fill_all (meaning old.rows) (children_shapes items)))
   pub extends : Extends old new
   pub counters : new.counters ≡ old.counters
   pub err : OnErr result (new ≡ old)
-  pub cause : IfErr result (IsUnbuilt old (items_tree sort (fill_all (meaning old.rows) (children_shapes items))))
+  pub cause : IfErr result (IsUnbuilt old (items_tree t (fill_all (meaning old.rows) (children_shapes items))))
   -- a list of clauses with an item that is not a clause is never stored
-  pub refused : OnOk result (IsNoClauseList (items_tree sort (fill_all (meaning old.rows) (children_shapes items))) → ⊥)
-  pub of_sort : IfOk result (λ l. list_sort l ≡ sort)
-  pub stored : IfOk result (λ l. Stores old.rows new.rows (items_row sort items) (list_number l))
+  pub refused : OnOk result (IsNoClauseList (items_tree t (fill_all (meaning old.rows) (children_shapes items))) → ⊥)
+  pub of_table : IfOk result (λ l. l.table ≡ t)
+  pub stored : IfOk result (λ l. Stores old.rows new.rows (items_row t items) l.number)
   -- a stored row is found; a new list is refused if its table is full, or if an item that has to be a clause isn't one
-  pub found : (n : ℕ) → IsAt old.rows (items_row sort items) n
-      → (((l : StoredList) × (result ≡ Ok l) × (list_number l ≡ n)) × (new ≡ old)) ⊎ LacksItems result items
-  pub full : IsNew (items_row sort items) old.rows → (IsNoClauseList (children_tree old.rows sort items) → ⊥)
-      → old.limit ≤ size old.rows (sort_list_table sort) → (result ≡ Err TableFull) ⊎ LacksItems result items
-  pub other : IsNoClauseList (children_tree old.rows sort items) → (result ≡ Err NotAClause) ⊎ LacksItems result items
+  pub found : (n : ℕ) → IsAt old.rows (items_row t items) n
+      → (((l : AnyHandle) × (result ≡ Ok l) × (l.number ≡ n)) × (new ≡ old)) ⊎ LacksItems result items
+  pub full : IsNew (items_row t items) old.rows → (IsNoClauseList (children_tree old.rows t items) → ⊥)
+      → old.limit ≤ size old.rows (term_table t) → (result ≡ Err TableFull) ⊎ LacksItems result items
+  pub other : IsNoClauseList (children_tree old.rows t items) → (result ≡ Err NotAClause) ⊎ LacksItems result items

@@ -1,21 +1,23 @@
 //! Conversion of lists of children to typed lists.
 
 ghost use Rattle.std.specs.Prelude.{◌≡◌, ◌<◌, ◌≤◌, length, slice_get, take, map, All, IfOk, Some};
-ghost use Rattle.tt_kinds.specs.Parts.{child_sort, IsItem};
+ghost use Rattle.tt_kinds.specs.Parts.{child_in, child_sort, IsItem, IsItemOf};
 ghost use Rattle.tt_kinds.specs.Shape.{AreParts};
 ghost use Rattle.tt_kinds.specs.Kinds.{children_shapes};
-ghost use Rattle.tt_kinds.specs.declared.parts.ListSort.{ListSort};
+ghost use Rattle.tt_kinds.specs.declared.table.TermTable.{TermTable};
+ghost use Rattle.tt_kinds.specs.declared.table.TermTable.TheVariants as terms_of;
 ghost use Rattle.tt_kinds.specs.declared.parts.Child.{Child};
 ghost use Rattle.tt_interner.specs.Rows.{size};
-ghost use Rattle.tt_interner.specs.Children.{arg_child, clause_child};
+ghost use Rattle.tt_interner.specs.Children.{arg_child};
 ghost use Rattle.tt_interner.specs.Stored.{most_in_place, StoresList};
 
 use crate::interner::Interner;
 use std::alloc::{AllocError, Global};
 use tt_index::Refusal;
+use tt_kinds::handle::{ClauseRow, ConstRow, ExistentialRow, PatternRow, TypeRow};
 use tt_kinds::{
-    Child, Clause, Const, GenericArg, GenericArgKind, List, Node, Pat, PolyExistentialPredicate,
-    Predicate, Ty,
+    AnyHandle, Child, Clause, Const, GenericArg, GenericArgKind, Handle, IsTermRow, Pat,
+    PolyExistentialPredicate, TermTable, Ty,
 };
 
 /// Returns the item at this place.
@@ -32,27 +34,20 @@ pub(crate) fn arg_child(arg: GenericArg) -> Child
 {
     match arg.kind() {
         GenericArgKind::Lifetime(region) => Child::Region(region),
-        GenericArgKind::Type(ty) => Child::Node(Node::Ty(ty)),
-        GenericArgKind::Const(constant) => Child::Node(Node::Const(constant)),
+        GenericArgKind::Type(ty) => ty.child(),
+        GenericArgKind::Const(constant) => constant.child(),
     }
-}
-
-/// Returns the clause, as a child.
-pub(crate) fn clause_child(clause: Clause) -> Child
-    ensures { result ≡ clause_child clause }
-{
-    Child::Node(Node::Predicate(Predicate::from_number(clause.number())))
 }
 
 /// An item of a list of one sort.
 pub(crate) trait ListItem: Copy + Drop {
-    ghost sort: { ListSort };
+    ghost table: { TermTable };
 
     ghost as_child: { Self → Child };
 
     /// Returns the item that this child is.
     fn from_child(child: &Child) -> Self
-        requires { IsItem sort (child_sort child.now) }
+        requires { IsItem table (child_sort child.now) }
         ensures { as_child result ≡ child.now };
 }
 
@@ -63,206 +58,162 @@ pub(crate) const MOST_IN_PLACE: usize = 8;
 pub(crate) trait StoredItem: ListItem {
     /// Returns the stored list of the items that these children are. They are collected in place, so a list that is
     /// stored already is found without allocation.
-    fn store_few(cx: &mut Interner, children: &[Child]) -> Result<List, Refusal>
+    fn store_few(cx: &mut Interner, children: &[Child]) -> Result<AnyHandle, Refusal>
         requires parts { AreParts (size cx.old.rows) (children_shapes children.now) }
-        requires fit { All (λ c. IsItem Self.sort (child_sort c)) children.now }
+        requires fit { All (λ c. IsItem Self.table (child_sort c)) children.now }
         requires few { length children.now ≤ most_in_place }
-        ensures { StoresList result cx.old cx.new Self.sort children.now };
+        ensures { StoresList result cx.old cx.new Self.table children.now };
 
     /// Returns the stored list of these items, which have to be of the interner. A new list keeps the vector, unless it
     /// is a list of types.
-    fn store(cx: &mut Interner, items: Vec<Self>) -> Result<List, Refusal>
+    fn store(cx: &mut Interner, items: Vec<Self>) -> Result<AnyHandle, Refusal>
         requires { AreParts (size cx.old.rows) (children_shapes (map Self.as_child items.items)) }
-        ensures { StoresList result cx.old cx.new Self.sort (map Self.as_child items.items) };
+        ensures { StoresList result cx.old cx.new Self.table (map Self.as_child items.items) };
 }
 
-impl ListItem for Ty {
-    ghost use Rattle.tt_kinds.specs.declared.parts.ListSort.TheVariants.{Tys};
-    ghost use Rattle.tt_interner.specs.Children.{ty_child};
+/// A mark of handles that are items of lists of their own.
+pub(crate) trait IsListed: IsTermRow {
+    // The table of the lists.
+    ghost LIST: { TermTable };
 
-    ghost sort = { Tys };
+    ghost fits: { (t : TermTable) → IsItemOf LIST t → t ≡ Self.IsTermRow.TERM_TABLE };
+}
 
-    ghost as_child = { ty_child };
+impl IsListed for TypeRow {
+    ghost LIST = { terms_of.TypeLists };
 
-    fn from_child(child: &Child) -> Ty {
-        child.ty()
+    ghost fits = { λ t h. h };
+}
+
+impl IsListed for ConstRow {
+    ghost LIST = { terms_of.ConstLists };
+
+    ghost fits = { λ t h. h };
+}
+
+impl IsListed for PatternRow {
+    ghost LIST = { terms_of.PatternLists };
+
+    ghost fits = { λ t h. h };
+}
+
+impl IsListed for ExistentialRow {
+    ghost LIST = { terms_of.ExistentialLists };
+
+    ghost fits = { λ t h. h };
+}
+
+impl IsListed for ClauseRow {
+    ghost LIST = { terms_of.ClauseLists };
+
+    ghost fits = { λ t h. h };
+}
+
+impl<K: IsListed> ListItem for Handle<K> {
+    ghost table = { K.IsListed.LIST };
+
+    ghost as_child = { child_in K.IsTermRow.TERM_TABLE };
+
+    fn from_child(child: &Child) -> Handle<K> {
+        child.handle()
     }
 }
 
 impl StoredItem for Ty {
-    ghost use Rattle.tt_kinds.specs.declared.parts.ListSort.TheVariants.{Tys};
-    ghost use Rattle.tt_interner.specs.Children.{ty_child};
-
-    fn store_few(cx: &mut Interner, children: &[Child]) -> Result<List, Refusal>
+    fn store_few(cx: &mut Interner, children: &[Child]) -> Result<AnyHandle, Refusal>
         requires parts { AreParts (size cx.old.rows) (children_shapes children.now) }
-        requires fit { All (λ c. IsItem Tys (child_sort c)) children.now }
+        requires fit { All (λ c. IsItem terms_of.TypeLists (child_sort c)) children.now }
         requires few { length children.now ≤ most_in_place }
-        ensures { StoresList result cx.old cx.new Tys children.now }
+        ensures { StoresList result cx.old cx.new terms_of.TypeLists children.now }
     {
         let mut places = [Ty::from_number(0); MOST_IN_PLACE];
         put_items(&mut places, children);
         let tys = cx.mk_tys(&places[..children.len()])?;
-        Ok(List::Tys(tys))
+        Ok(tys.any())
     }
 
-    fn store(cx: &mut Interner, items: Vec<Ty>) -> Result<List, Refusal>
-        requires { AreParts (size cx.old.rows) (children_shapes (map ty_child items.items)) }
-        ensures { StoresList result cx.old cx.new Tys (map ty_child items.items) }
+    fn store(cx: &mut Interner, items: Vec<Ty>) -> Result<AnyHandle, Refusal>
+        requires { AreParts (size cx.old.rows) (children_shapes (map (child_in terms_of.Types) items.items)) }
+        ensures { StoresList result cx.old cx.new terms_of.TypeLists (map (child_in terms_of.Types) items.items) }
     {
         let list = cx.mk_tys(items.as_slice())?;
-        Ok(List::Tys(list))
-    }
-}
-
-impl ListItem for Const {
-    ghost use Rattle.tt_kinds.specs.declared.parts.ListSort.TheVariants.{Consts};
-    ghost use Rattle.tt_interner.specs.Children.{const_child};
-
-    ghost sort = { Consts };
-
-    ghost as_child = { const_child };
-
-    fn from_child(child: &Child) -> Const {
-        match child {
-            Child::Node(Node::Const(constant)) => *constant,
-            _ => unreachable!(),
-        }
+        Ok(list.any())
     }
 }
 
 impl StoredItem for Const {
-    ghost use Rattle.tt_kinds.specs.declared.parts.ListSort.TheVariants.{Consts};
-    ghost use Rattle.tt_interner.specs.Children.{const_child};
-
-    fn store_few(cx: &mut Interner, children: &[Child]) -> Result<List, Refusal>
+    fn store_few(cx: &mut Interner, children: &[Child]) -> Result<AnyHandle, Refusal>
         requires parts { AreParts (size cx.old.rows) (children_shapes children.now) }
-        requires fit { All (λ c. IsItem Consts (child_sort c)) children.now }
+        requires fit { All (λ c. IsItem terms_of.ConstLists (child_sort c)) children.now }
         requires few { length children.now ≤ most_in_place }
-        ensures { StoresList result cx.old cx.new Consts children.now }
+        ensures { StoresList result cx.old cx.new terms_of.ConstLists children.now }
     {
         let mut places = [Const::from_number(0); MOST_IN_PLACE];
         put_items(&mut places, children);
         let consts = cx.mk_consts(&places[..children.len()])?;
-        Ok(List::Consts(consts))
+        Ok(consts.any())
     }
 
-    fn store(cx: &mut Interner, items: Vec<Const>) -> Result<List, Refusal>
-        requires { AreParts (size cx.old.rows) (children_shapes (map const_child items.items)) }
-        ensures { StoresList result cx.old cx.new Consts (map const_child items.items) }
+    fn store(cx: &mut Interner, items: Vec<Const>) -> Result<AnyHandle, Refusal>
+        requires { AreParts (size cx.old.rows) (children_shapes (map (child_in terms_of.Consts) items.items)) }
+        ensures { StoresList result cx.old cx.new terms_of.ConstLists (map (child_in terms_of.Consts) items.items) }
     {
         let list = cx.put_consts(items)?;
-        Ok(List::Consts(list))
-    }
-}
-
-impl ListItem for Pat {
-    ghost use Rattle.tt_kinds.specs.declared.parts.ListSort.TheVariants.{Pats};
-    ghost use Rattle.tt_interner.specs.Children.{pat_child};
-
-    ghost sort = { Pats };
-
-    ghost as_child = { pat_child };
-
-    fn from_child(child: &Child) -> Pat {
-        match child {
-            Child::Node(Node::Pat(pat)) => *pat,
-            _ => unreachable!(),
-        }
+        Ok(list.any())
     }
 }
 
 impl StoredItem for Pat {
-    ghost use Rattle.tt_kinds.specs.declared.parts.ListSort.TheVariants.{Pats};
-    ghost use Rattle.tt_interner.specs.Children.{pat_child};
-
-    fn store_few(cx: &mut Interner, children: &[Child]) -> Result<List, Refusal>
+    fn store_few(cx: &mut Interner, children: &[Child]) -> Result<AnyHandle, Refusal>
         requires parts { AreParts (size cx.old.rows) (children_shapes children.now) }
-        requires fit { All (λ c. IsItem Pats (child_sort c)) children.now }
+        requires fit { All (λ c. IsItem terms_of.PatternLists (child_sort c)) children.now }
         requires few { length children.now ≤ most_in_place }
-        ensures { StoresList result cx.old cx.new Pats children.now }
+        ensures { StoresList result cx.old cx.new terms_of.PatternLists children.now }
     {
         let mut places = [Pat::from_number(0); MOST_IN_PLACE];
         put_items(&mut places, children);
         let pats = cx.mk_pat_list(&places[..children.len()])?;
-        Ok(List::Pats(pats))
+        Ok(pats.any())
     }
 
-    fn store(cx: &mut Interner, items: Vec<Pat>) -> Result<List, Refusal>
-        requires { AreParts (size cx.old.rows) (children_shapes (map pat_child items.items)) }
-        ensures { StoresList result cx.old cx.new Pats (map pat_child items.items) }
+    fn store(cx: &mut Interner, items: Vec<Pat>) -> Result<AnyHandle, Refusal>
+        requires { AreParts (size cx.old.rows) (children_shapes (map (child_in terms_of.Patterns) items.items)) }
+        ensures { StoresList result cx.old cx.new terms_of.PatternLists (map (child_in terms_of.Patterns) items.items) }
     {
         let list = cx.put_pat_list(items)?;
-        Ok(List::Pats(list))
-    }
-}
-
-impl ListItem for PolyExistentialPredicate {
-    ghost use Rattle.tt_kinds.specs.declared.parts.ListSort.TheVariants.{Existentials};
-    ghost use Rattle.tt_interner.specs.Children.{existential_child};
-
-    ghost sort = { Existentials };
-
-    ghost as_child = { existential_child };
-
-    fn from_child(child: &Child) -> PolyExistentialPredicate {
-        match child {
-            Child::Node(Node::Existential(predicate)) => *predicate,
-            _ => unreachable!(),
-        }
+        Ok(list.any())
     }
 }
 
 impl StoredItem for PolyExistentialPredicate {
-    ghost use Rattle.tt_kinds.specs.declared.parts.ListSort.TheVariants.{Existentials};
-    ghost use Rattle.tt_interner.specs.Children.{existential_child};
-
-    fn store_few(cx: &mut Interner, children: &[Child]) -> Result<List, Refusal>
+    fn store_few(cx: &mut Interner, children: &[Child]) -> Result<AnyHandle, Refusal>
         requires parts { AreParts (size cx.old.rows) (children_shapes children.now) }
-        requires fit { All (λ c. IsItem Existentials (child_sort c)) children.now }
+        requires fit { All (λ c. IsItem terms_of.ExistentialLists (child_sort c)) children.now }
         requires few { length children.now ≤ most_in_place }
-        ensures { StoresList result cx.old cx.new Existentials children.now }
+        ensures { StoresList result cx.old cx.new terms_of.ExistentialLists children.now }
     {
         let mut places = [PolyExistentialPredicate::from_number(0); MOST_IN_PLACE];
         put_items(&mut places, children);
         let predicates = cx.mk_existential_list(&places[..children.len()])?;
-        Ok(List::Existentials(predicates))
+        Ok(predicates.any())
     }
 
-    fn store(cx: &mut Interner, items: Vec<PolyExistentialPredicate>) -> Result<List, Refusal>
-        requires { AreParts (size cx.old.rows) (children_shapes (map existential_child items.items)) }
-        ensures { StoresList result cx.old cx.new Existentials (map existential_child items.items) }
+    fn store(cx: &mut Interner, items: Vec<PolyExistentialPredicate>) -> Result<AnyHandle, Refusal>
+        requires { AreParts (size cx.old.rows) (children_shapes (map (child_in terms_of.Existentials) items.items)) }
+        ensures { StoresList result cx.old cx.new terms_of.ExistentialLists (map (child_in terms_of.Existentials) items.items) }
     {
         let list = cx.put_existentials(items)?;
-        Ok(List::Existentials(list))
-    }
-}
-
-impl ListItem for Clause {
-    ghost use Rattle.tt_kinds.specs.declared.parts.ListSort.TheVariants.{Clauses};
-    ghost use Rattle.tt_interner.specs.Children.{clause_child};
-
-    ghost sort = { Clauses };
-
-    ghost as_child = { clause_child };
-
-    fn from_child(child: &Child) -> Clause {
-        match child {
-            Child::Node(Node::Predicate(predicate)) => Clause::from_number(predicate.number()),
-            _ => unreachable!(),
-        }
+        Ok(list.any())
     }
 }
 
 impl StoredItem for Clause {
-    ghost use Rattle.tt_kinds.specs.declared.parts.ListSort.TheVariants.{Clauses};
-    ghost use Rattle.tt_interner.specs.Children.{clause_child};
-
     // The children may be any predicates, so each is tested.
-    fn store_few(cx: &mut Interner, children: &[Child]) -> Result<List, Refusal>
+    fn store_few(cx: &mut Interner, children: &[Child]) -> Result<AnyHandle, Refusal>
         requires parts { AreParts (size cx.old.rows) (children_shapes children.now) }
-        requires fit { All (λ c. IsItem Clauses (child_sort c)) children.now }
+        requires fit { All (λ c. IsItem terms_of.ClauseLists (child_sort c)) children.now }
         requires few { length children.now ≤ most_in_place }
-        ensures { StoresList result cx.old cx.new Clauses children.now }
+        ensures { StoresList result cx.old cx.new terms_of.ClauseLists children.now }
     {
         let mut places = [Clause::from_number(0); MOST_IN_PLACE];
         put_items(&mut places, children);
@@ -272,68 +223,75 @@ impl StoredItem for Clause {
             return Err(Refusal::NotAClause);
         }
         let clauses = cx.mk_clauses(items)?;
-        Ok(List::Clauses(clauses))
+        Ok(clauses.any())
     }
 
-    fn store(cx: &mut Interner, items: Vec<Clause>) -> Result<List, Refusal>
-        requires { AreParts (size cx.old.rows) (children_shapes (map clause_child items.items)) }
-        ensures { StoresList result cx.old cx.new Clauses (map clause_child items.items) }
+    fn store(cx: &mut Interner, items: Vec<Clause>) -> Result<AnyHandle, Refusal>
+        requires { AreParts (size cx.old.rows) (children_shapes (map (child_in terms_of.Predicates) items.items)) }
+        ensures { StoresList result cx.old cx.new terms_of.ClauseLists (map (child_in terms_of.Predicates) items.items) }
     {
         cx.are_rows();
         if !cx.are_clauses(items.as_slice()) {
             return Err(Refusal::NotAClause);
         }
         let list = cx.put_clauses(items)?;
-        Ok(List::Clauses(list))
+        Ok(list.any())
     }
 }
 
 impl ListItem for GenericArg {
-    ghost use Rattle.tt_kinds.specs.declared.parts.ListSort.TheVariants.{Args};
     ghost use Rattle.tt_interner.specs.Children.{arg_child};
 
-    ghost sort = { Args };
+    ghost table = { terms_of.ArgLists };
 
     ghost as_child = { arg_child };
 
     fn from_child(child: &Child) -> GenericArg {
         match child {
             Child::Region(region) => GenericArg::from(*region),
-            Child::Node(Node::Ty(ty)) => GenericArg::from(*ty),
-            Child::Node(Node::Const(constant)) => GenericArg::from(*constant),
-            _ => unreachable!(),
+            Child::Stored(stored) => match stored.table {
+                TermTable::Types => {
+                    let ty: Ty = stored.typed();
+                    GenericArg::from(ty)
+                }
+                TermTable::Consts => {
+                    let constant: Const = stored.typed();
+                    GenericArg::from(constant)
+                }
+                _ => unreachable!(),
+            },
+            Child::Absent => unreachable!(),
         }
     }
 }
 
 impl StoredItem for GenericArg {
-    ghost use Rattle.tt_kinds.specs.declared.parts.ListSort.TheVariants.{Args};
     ghost use Rattle.tt_interner.specs.Children.{arg_child};
 
-    fn store_few(cx: &mut Interner, children: &[Child]) -> Result<List, Refusal>
+    fn store_few(cx: &mut Interner, children: &[Child]) -> Result<AnyHandle, Refusal>
         requires parts { AreParts (size cx.old.rows) (children_shapes children.now) }
-        requires fit { All (λ c. IsItem Args (child_sort c)) children.now }
+        requires fit { All (λ c. IsItem terms_of.ArgLists (child_sort c)) children.now }
         requires few { length children.now ≤ most_in_place }
-        ensures { StoresList result cx.old cx.new Args children.now }
+        ensures { StoresList result cx.old cx.new terms_of.ArgLists children.now }
     {
         let mut places = [GenericArg::from(Ty::from_number(0)); MOST_IN_PLACE];
         put_items(&mut places, children);
         let args = cx.mk_args(&places[..children.len()])?;
-        Ok(List::Args(args))
+        Ok(args.any())
     }
 
-    fn store(cx: &mut Interner, items: Vec<GenericArg>) -> Result<List, Refusal>
+    fn store(cx: &mut Interner, items: Vec<GenericArg>) -> Result<AnyHandle, Refusal>
         requires { AreParts (size cx.old.rows) (children_shapes (map arg_child items.items)) }
-        ensures { StoresList result cx.old cx.new Args (map arg_child items.items) }
+        ensures { StoresList result cx.old cx.new terms_of.ArgLists (map arg_child items.items) }
     {
         let list = cx.put_args(items)?;
-        Ok(List::Args(list))
+        Ok(list.any())
     }
 }
 
 // Converts the children to items, and writes these to the first places.
 fn put_items<T: ListItem>(places: &mut [T], children: &[Child])
-    requires fit { All (λ c. IsItem T.sort (child_sort c)) children.now }
+    requires fit { All (λ c. IsItem T.table (child_sort c)) children.now }
     requires room { length children.now ≤ length places.old }
     ensures { map T.as_child (take (length children.now) places.new) ≡ children.now }
 {
@@ -344,7 +302,7 @@ fn put_items<T: ListItem>(places: &mut [T], children: &[Child])
 
 /// Returns the items that these children are.
 pub(crate) fn collect<T: ListItem>(alloc: Global, children: &[Child]) -> Result<Vec<T>, AllocError>
-    requires { All (λ c. IsItem T.sort (child_sort c)) children.now }
+    requires { All (λ c. IsItem T.table (child_sort c)) children.now }
     ensures { IfOk result (λ items. map T.as_child items.items ≡ children.now) }
 {
     let mut items = Vec::with_capacity(alloc, children.len())?;
@@ -359,10 +317,10 @@ pub(crate) fn collect<T: ListItem>(alloc: Global, children: &[Child]) -> Result<
 pub(crate) fn store_items<T: StoredItem>(
     cx: &mut Interner,
     children: &[Child],
-) -> Result<List, Refusal>
+) -> Result<AnyHandle, Refusal>
     requires parts { AreParts (size cx.old.rows) (children_shapes children.now) }
-    requires fit { All (λ c. IsItem T.sort (child_sort c)) children.now }
-    ensures { StoresList result cx.old cx.new T.sort children.now }
+    requires fit { All (λ c. IsItem T.table (child_sort c)) children.now }
+    ensures { StoresList result cx.old cx.new T.table children.now }
 {
     if children.len() <= MOST_IN_PLACE {
         return T::store_few(cx, children);

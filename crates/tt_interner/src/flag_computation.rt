@@ -3,7 +3,6 @@
 ghost use Rattle.std.specs.Prelude.{◌≡◌, ◌<◌, ℕ, map, Some};
 ghost use Rattle.tt_index.specs.Greatest.{greatest};
 ghost use Rattle.tt_kinds.specs.Bound.{var_kind};
-ghost use Rattle.tt_kinds.specs.Parts.{node_number, node_table, list_number, list_table};
 ghost use Rattle.tt_kinds.specs.Label.{Label, list_flags, Sort, type_label, type_sort};
 ghost use Rattle.tt_kinds.specs.Shape.{
   Meaning,
@@ -49,8 +48,8 @@ use crate::interner::Interner;
 use tt_flags::{FlagComputation, TypeFlags};
 use tt_index::{DebruijnIndex, GREATEST_INDEX};
 use tt_kinds::{
-    Binder, BoundVarKinds, BoundVariableKind, Child, Clause, ConstKind, Kind, List, Node, OwnFlags,
-    Parts, PredicateKind, Region, TyKind,
+    Binder, BoundVarKinds, BoundVariableKind, Child, Clause, ConstKind, Kind, OwnFlags, Parts,
+    PredicateKind, Region, TyKind,
 };
 
 /// Computes the information of terms that aren't stored yet. Every handle and name in them has to be the interner's;
@@ -223,38 +222,7 @@ fn child_info(cx: &Interner, child: &Child) -> FlagComputation
     match child {
         Child::Absent => FlagComputation::new(),
         Child::Region(region) => region_info(*region),
-        Child::Node(node) => node_info(cx, *node),
-        Child::List(list) => list_info(cx, *list),
-    }
-}
-
-// Returns the cached information of a stored term.
-fn node_info(cx: &Interner, node: Node) -> FlagComputation
-    requires { node_number node < size cx.now.rows (node_table node) }
-    ensures { IsInfo result (meaning cx.now.rows (node_table node) (node_number node)) }
-{
-    match node {
-        Node::Ty(ty) => cx.info(ty),
-        Node::Const(constant) => cx.info(constant),
-        Node::Pat(pat) => cx.info(pat),
-        Node::Predicate(predicate) => cx.info(predicate),
-        Node::Existential(predicate) => cx.info(predicate),
-        Node::Clauses(clauses) => cx.info(clauses),
-    }
-}
-
-// Returns the cached information of a stored list.
-fn list_info(cx: &Interner, list: List) -> FlagComputation
-    requires { list_number list < size cx.now.rows (list_table list) }
-    ensures { IsInfo result (meaning cx.now.rows (list_table list) (list_number list)) }
-{
-    match list {
-        List::Tys(tys) => cx.info(tys),
-        List::Consts(consts) => cx.info(consts),
-        List::Args(args) => cx.info(args),
-        List::Pats(pats) => cx.info(pats),
-        List::Existentials(predicates) => cx.info(predicates),
-        List::Clauses(clauses) => cx.info(clauses),
+        Child::Stored(stored) => cx.info_in(stored.table.table(), stored.number),
     }
 }
 

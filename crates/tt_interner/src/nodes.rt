@@ -2,7 +2,6 @@
 
 ghost use Rattle.std.specs.Prelude.{
   ◌≡◌,
-  ◌≢◌,
   ℕ,
   ◌<◌,
   ◌≤◌,
@@ -14,22 +13,15 @@ ghost use Rattle.std.specs.Prelude.{
   OnOk,
   OnErr,
   All,
+  IsFalse,
+  IsTrue,
   length,
   slice_get,
   Some,
 };
 ghost use Rattle.tt_kinds.specs.Shape.{HasParts, AreParts, fill, fill_all};
-ghost use Rattle.tt_kinds.specs.Parts.{
-  node_table,
-  node_number,
-  list_table,
-  list_number,
-  list_sort,
-  sort_list_table,
-  child_sort,
-  AreLike,
-  IsItem,
-};
+ghost use Rattle.tt_kinds.specs.Parts.{child_sort, AreLike, IsItem};
+ghost use Rattle.tt_kinds.specs.TermTable.{has_items, term_table};
 ghost use Rattle.tt_kinds.specs.Kinds.{
   form_binder,
   form_parts,
@@ -54,13 +46,17 @@ ghost use Rattle.tt_interner.specs.Stored.{
 ghost use Rattle.tt_interner.specs.Children.{children_at, items_row};
 ghost use Rattle.tt_interner.specs.Nodes.{stored_kind, BuildsLike};
 
-use crate::children::{arg_child, clause_child, item_at, store_items};
+use crate::children::{arg_child, item_at, store_items};
 use crate::handle::{InternedKind, InternedList};
 use crate::interner::Interner;
 use tt_index::Refusal;
+use tt_kinds::handle::{
+    ArgListRow, ClauseListRow, ConstListRow, ConstRow, ExistentialListRow, ExistentialRow,
+    PatternListRow, PatternRow, PredicateRow, TypeListRow, TypeRow,
+};
 use tt_kinds::{
-    BoundVarKinds, Child, Clause, Const, GenericArg, Kind, List, ListSort, Node, Parts, Pat,
-    PolyExistentialPredicate, Table, Ty,
+    AnyHandle, BoundVarKinds, Child, Clause, Const, GenericArg, Kind, Parts, Pat,
+    PolyExistentialPredicate, TermTable, Ty,
 };
 
 /// The contents of a stored term.
@@ -73,120 +69,123 @@ pub struct Contents {
 }
 
 impl Interner {
-    /// Returns a stored term's kind. The term has to be of this interner, which [`Interner::owns_node`] tests, and not
-    /// a list of clauses, whose items [`Interner::list_child`] reads.
+    /// Returns a stored term's kind. The handle has to be of this interner, which [`Interner::owns_any`] tests, and not
+    /// of a list, which [`TermTable::has_items`] tests: [`Interner::list_child`] reads the items of a list.
     #[inline(always)]
-    pub fn node_kind(&self, node: Node) -> Kind
-        requires owned { node_number node < size self.now.rows (node_table node) }
-        requires has_kind { node_table node ≢ Table.ClauseLists }
-        ensures table { kind_table result ≡ node_table node }
-        ensures kind { result ≡ stored_kind self.now.rows node }
+    pub fn node_kind(&self, handle: AnyHandle) -> Kind
+        requires owned { handle.number < size self.now.rows (term_table handle.table) }
+        requires has_kind { IsFalse (has_items handle.table) }
+        ensures table { kind_table result ≡ handle.table }
+        ensures kind { result ≡ stored_kind self.now.rows handle }
         ensures parts { HasParts (size self.now.rows) (kind_shape result) }
-        ensures means { meaning self.now.rows (node_table node) (node_number node)
+        ensures means { meaning self.now.rows (term_table handle.table) handle.number
             ≡ fill (meaning self.now.rows) (kind_shape result) }
         ensures older { IsOlder self.now.rows
-            (age self.now.rows (node_table node) (node_number node))
+            (age self.now.rows (term_table handle.table) handle.number)
             (kind_shape result) }
     {
         self.are_rows();
-        self.kind_at(node)
+        self.kind_at(handle)
     }
 
     // Returns a stored term's kind.
-    fn kind_at(&self, node: Node) -> Kind
-        requires owned { node_number node < size self.now.rows (node_table node) }
-        requires has_kind { node_table node ≢ Table.ClauseLists }
-        ensures table { kind_table result ≡ node_table node }
-        ensures row { IsAt self.now.rows (kind_row result) (node_number node) }
+    fn kind_at(&self, handle: AnyHandle) -> Kind
+        requires owned { handle.number < size self.now.rows (term_table handle.table) }
+        requires has_kind { IsFalse (has_items handle.table) }
+        ensures table { kind_table result ≡ handle.table }
+        ensures row { IsAt self.now.rows (kind_row result) handle.number }
     {
-        match node {
-            Node::Ty(ty) => Kind::Ty(*ty.kind(self)),
-            Node::Const(constant) => Kind::Const(*constant.kind(self)),
-            Node::Pat(pat) => Kind::Pat(*pat.kind(self)),
-            Node::Predicate(predicate) => Kind::Predicate(*predicate.kind(self)),
-            Node::Existential(predicate) => Kind::Existential(*predicate.kind(self)),
-            Node::Clauses(_) => unreachable!(),
+        match handle.table {
+            TermTable::Types => Kind::Ty(*handle.typed::<TypeRow>().kind(self)),
+            TermTable::Consts => Kind::Const(*handle.typed::<ConstRow>().kind(self)),
+            TermTable::Patterns => Kind::Pat(*handle.typed::<PatternRow>().kind(self)),
+            TermTable::Predicates => Kind::Predicate(*handle.typed::<PredicateRow>().kind(self)),
+            TermTable::Existentials => Kind::Existential(
+                *handle.typed::<ExistentialRow>().kind(self),
+            ),
+            _ => unreachable!(),
         }
     }
 
     /// Returns the contents of a stored term, read in place. [`Interner::node_kind`] states the conditions on the term.
     #[inline(always)]
-    pub fn node_parts(&self, node: Node) -> Contents
-        requires owned { node_number node < size self.now.rows (node_table node) }
-        requires has_kind { node_table node ≢ Table.ClauseLists }
-        ensures bound_vars { result.bound_vars ≡ form_binder (kind_form (stored_kind self.now.rows node)) }
-        ensures children { result.parts ≡ form_parts (kind_form (stored_kind self.now.rows node)) }
-        ensures table { kind_table (stored_kind self.now.rows node) ≡ node_table node }
-        ensures parts { HasParts (size self.now.rows) (kind_shape (stored_kind self.now.rows node)) }
-        ensures means { meaning self.now.rows (node_table node) (node_number node)
-            ≡ fill (meaning self.now.rows) (kind_shape (stored_kind self.now.rows node)) }
+    pub fn node_parts(&self, handle: AnyHandle) -> Contents
+        requires owned { handle.number < size self.now.rows (term_table handle.table) }
+        requires has_kind { IsFalse (has_items handle.table) }
+        ensures bound_vars { result.bound_vars ≡ form_binder (kind_form (stored_kind self.now.rows handle)) }
+        ensures children { result.parts ≡ form_parts (kind_form (stored_kind self.now.rows handle)) }
+        ensures table { kind_table (stored_kind self.now.rows handle) ≡ handle.table }
+        ensures parts { HasParts (size self.now.rows) (kind_shape (stored_kind self.now.rows handle)) }
+        ensures means { meaning self.now.rows (term_table handle.table) handle.number
+            ≡ fill (meaning self.now.rows) (kind_shape (stored_kind self.now.rows handle)) }
         ensures older { IsOlder self.now.rows
-            (age self.now.rows (node_table node) (node_number node))
-            (kind_shape (stored_kind self.now.rows node)) }
+            (age self.now.rows (term_table handle.table) handle.number)
+            (kind_shape (stored_kind self.now.rows handle)) }
     {
         self.are_rows();
-        self.contents_at(node)
+        self.contents_at(handle)
     }
 
     // Returns the contents of a stored term.
     #[inline(always)]
-    fn contents_at(&self, node: Node) -> Contents
-        requires owned { node_number node < size self.now.rows (node_table node) }
-        requires has_kind { node_table node ≢ Table.ClauseLists }
-        ensures bound_vars { result.bound_vars ≡ form_binder (kind_form (stored_kind self.now.rows node)) }
-        ensures children { result.parts ≡ form_parts (kind_form (stored_kind self.now.rows node)) }
+    fn contents_at(&self, handle: AnyHandle) -> Contents
+        requires owned { handle.number < size self.now.rows (term_table handle.table) }
+        requires has_kind { IsFalse (has_items handle.table) }
+        ensures bound_vars { result.bound_vars ≡ form_binder (kind_form (stored_kind self.now.rows handle)) }
+        ensures children { result.parts ≡ form_parts (kind_form (stored_kind self.now.rows handle)) }
     {
-        match node {
-            Node::Ty(ty) => {
-                let kind = ty.kind(self);
+        match handle.table {
+            TermTable::Types => {
+                let kind = handle.typed::<TypeRow>().kind(self);
                 Contents {
                     bound_vars: kind.bound_vars(),
                     parts: kind.parts(),
                 }
             }
-            Node::Const(constant) => {
-                let kind = constant.kind(self);
+            TermTable::Consts => {
+                let kind = handle.typed::<ConstRow>().kind(self);
                 Contents {
                     bound_vars: kind.bound_vars(),
                     parts: kind.parts(),
                 }
             }
-            Node::Pat(pat) => Contents {
+            TermTable::Patterns => Contents {
                 bound_vars: None,
-                parts: pat.kind(self).parts(),
+                parts: handle.typed::<PatternRow>().kind(self).parts(),
             },
-            Node::Predicate(predicate) => {
-                let kind = predicate.kind(self);
+            TermTable::Predicates => {
+                let kind = handle.typed::<PredicateRow>().kind(self);
                 Contents {
                     bound_vars: Some(kind.bound_vars()),
                     parts: kind.as_ref().skip_binder().parts(),
                 }
             }
-            Node::Existential(predicate) => {
-                let kind = predicate.kind(self);
+            TermTable::Existentials => {
+                let kind = handle.typed::<ExistentialRow>().kind(self);
                 Contents {
                     bound_vars: Some(kind.bound_vars()),
                     parts: kind.as_ref().skip_binder().parts(),
                 }
             }
-            Node::Clauses(_) => unreachable!(),
+            _ => unreachable!(),
         }
     }
 
-    /// Returns the number of children of a stored list. The list has to be of this interner; [`Interner::owns_list`]
-    /// tests it.
+    /// Returns the number of children of a stored list. The handle has to be of this interner, which
+    /// [`Interner::owns_any`] tests, and of a list, which [`TermTable::has_items`] tests.
     #[inline(always)]
-    pub fn list_len(&self, list: List) -> usize
-        requires { list_number list < size self.now.rows (list_table list) }
+    pub fn list_len(&self, list: AnyHandle) -> usize
+        requires owned { list.number < size self.now.rows (term_table list.table) }
+        requires is_list { IsTrue (has_items list.table) }
         ensures len { result ≡ length (children_at self.now.rows list) }
-        ensures means { meaning self.now.rows (list_table list) (list_number list)
+        ensures means { meaning self.now.rows (term_table list.table) list.number
             ≡ items_tree
-            (list_sort list)
+            list.table
             (fill_all (meaning self.now.rows) (children_shapes (children_at self.now.rows list))) }
         ensures parts { AreParts (size self.now.rows) (children_shapes (children_at self.now.rows list)) }
-        ensures fit { All (λ c. IsItem (list_sort list) (child_sort c)) (children_at self.now.rows list) }
+        ensures fit { All (λ c. IsItem list.table (child_sort c)) (children_at self.now.rows list) }
         ensures older { AreOlder self.now.rows
-            (age self.now.rows (list_table list) (list_number list))
+            (age self.now.rows (term_table list.table) list.number)
             (children_shapes (children_at self.now.rows list)) }
     {
         self.are_rows();
@@ -194,55 +193,73 @@ impl Interner {
     }
 
     // Returns the number of children of a stored list.
-    fn count_at(&self, list: List) -> usize
-        requires { list_number list < size self.now.rows (list_table list) }
+    fn count_at(&self, list: AnyHandle) -> usize
+        requires owned { list.number < size self.now.rows (term_table list.table) }
+        requires is_list { IsTrue (has_items list.table) }
         ensures { result ≡ length (children_at self.now.rows list) }
     {
-        match list {
-            List::Tys(tys) => tys.as_slice(self).len(),
-            List::Consts(consts) => consts.as_slice(self).len(),
-            List::Args(args) => args.as_slice(self).len(),
-            List::Pats(pats) => pats.as_slice(self).len(),
-            List::Existentials(predicates) => predicates.as_slice(self).len(),
-            List::Clauses(clauses) => clauses.as_slice(self).len(),
+        match list.table {
+            TermTable::TypeLists => list.typed::<TypeListRow>().as_slice(self).len(),
+            TermTable::ConstLists => list.typed::<ConstListRow>().as_slice(self).len(),
+            TermTable::ArgLists => list.typed::<ArgListRow>().as_slice(self).len(),
+            TermTable::PatternLists => list.typed::<PatternListRow>().as_slice(self).len(),
+            TermTable::ExistentialLists => list.typed::<ExistentialListRow>().as_slice(self).len(),
+            TermTable::ClauseLists => list.typed::<ClauseListRow>().as_slice(self).len(),
+            _ => unreachable!(),
         }
     }
 
-    /// Returns the child at this place of a stored list. The list has to be of this interner, which
-    /// [`Interner::owns_list`] tests, and `index` below its [`Interner::list_len`].
+    /// Returns the child at this place of a stored list. `index` has to be below [`Interner::list_len`], which states
+    /// the conditions on the list.
     #[inline(always)]
-    pub fn list_child(&self, list: List, index: usize) -> Child
-        requires owned { list_number list < size self.now.rows (list_table list) }
+    pub fn list_child(&self, list: AnyHandle, index: usize) -> Child
+        requires owned { list.number < size self.now.rows (term_table list.table) }
+        requires is_list { IsTrue (has_items list.table) }
         requires inside { index < length (children_at self.now.rows list) }
         ensures { slice_get (children_at self.now.rows list) index ≡ Some result }
     {
-        match list {
-            List::Tys(tys) => Child::Node(Node::Ty(item_at(tys.as_slice(self), index))),
-            List::Consts(consts) => Child::Node(Node::Const(item_at(consts.as_slice(self), index))),
-            List::Args(args) => arg_child(item_at(args.as_slice(self), index)),
-            List::Pats(pats) => Child::Node(Node::Pat(item_at(pats.as_slice(self), index))),
-            List::Existentials(predicates) => Child::Node(Node::Existential(item_at(
-                predicates.as_slice(self),
+        match list.table {
+            TermTable::TypeLists => item_at(
+                list.typed::<TypeListRow>().as_slice(self),
                 index,
-            ))),
-            List::Clauses(clauses) => clause_child(item_at(clauses.as_slice(self), index)),
+            ).child(),
+            TermTable::ConstLists => item_at(
+                list.typed::<ConstListRow>().as_slice(self),
+                index,
+            ).child(),
+            TermTable::ArgLists => arg_child(item_at(
+                list.typed::<ArgListRow>().as_slice(self),
+                index,
+            )),
+            TermTable::PatternLists => item_at(
+                list.typed::<PatternListRow>().as_slice(self),
+                index,
+            ).child(),
+            TermTable::ExistentialLists => {
+                item_at(list.typed::<ExistentialListRow>().as_slice(self), index).child()
+            }
+            TermTable::ClauseLists => item_at(
+                list.typed::<ClauseListRow>().as_slice(self),
+                index,
+            ).child(),
+            _ => unreachable!(),
         }
     }
 
     /// Returns the stored term of this kind. Every handle and name in the kind has to be this interner's;
     /// [`Interner::owns_kind`] and the tests of the other kinds test it. Refused as [`Interner::mk_ty`] is.
     #[inline(always)]
-    pub fn store(&mut self, kind: Kind) -> Result<Node, Refusal>
+    pub fn store(&mut self, kind: Kind) -> Result<AnyHandle, Refusal>
         requires { HasParts (size self.old.rows) (kind_shape kind) }
-        ensures builds { Builds result (λ n. node_number n) self.old self.new (kind_row kind) }
-        ensures table { IfOk result (λ n. node_table n ≡ kind_table kind) }
+        ensures builds { Builds result (λ n. n.number) self.old self.new (kind_row kind) }
+        ensures table { IfOk result (λ n. n.table ≡ kind_table kind) }
     {
         match kind {
-            Kind::Ty(kind) => Ok(Node::Ty(self.mk_ty(kind)?)),
-            Kind::Const(kind) => Ok(Node::Const(self.mk_const(kind)?)),
-            Kind::Pat(kind) => Ok(Node::Pat(self.mk_pat(kind)?)),
-            Kind::Predicate(kind) => Ok(Node::Predicate(self.mk_predicate(kind)?)),
-            Kind::Existential(kind) => Ok(Node::Existential(self.mk_existential(kind)?)),
+            Kind::Ty(kind) => Ok(self.mk_ty(kind)?.any()),
+            Kind::Const(kind) => Ok(self.mk_const(kind)?.any()),
+            Kind::Pat(kind) => Ok(self.mk_pat(kind)?.any()),
+            Kind::Predicate(kind) => Ok(self.mk_predicate(kind)?.any()),
+            Kind::Existential(kind) => Ok(self.mk_existential(kind)?.any()),
         }
     }
 
@@ -251,80 +268,83 @@ impl Interner {
     /// [`Parts::are_like`] tests. [`Interner::node_kind`] states the conditions on the term. Refused as
     /// [`Interner::mk_ty`] is.
     #[inline(always)]
-    pub fn store_like(&mut self, node: Node, parts: Parts) -> Result<Node, Refusal>
-        requires owned { node_number node < size self.old.rows (node_table node) }
-        requires has_kind { node_table node ≢ Table.ClauseLists }
-        requires like { AreLike (form_parts (kind_form (stored_kind self.old.rows node))) parts }
+    pub fn store_like(&mut self, handle: AnyHandle, parts: Parts) -> Result<AnyHandle, Refusal>
+        requires owned { handle.number < size self.old.rows (term_table handle.table) }
+        requires has_kind { IsFalse (has_items handle.table) }
+        requires like { AreLike (form_parts (kind_form (stored_kind self.old.rows handle))) parts }
         requires parts { AreParts (size self.old.rows) (parts_shapes parts) }
-        ensures { BuildsLike result self.old self.new node parts }
+        ensures { BuildsLike result self.old self.new handle parts }
     {
         self.are_rows();
-        match node {
-            Node::Ty(ty) => {
-                let kind = ty.kind(self).with_parts(parts);
+        match handle.table {
+            TermTable::Types => {
+                let kind = handle.typed::<TypeRow>().kind(self).with_parts(parts);
                 self.store(Kind::Ty(kind))
             }
-            _ => self.store_any_like(node, parts),
+            _ => self.store_any_like(handle, parts),
         }
     }
 
     // Returns the same as [`Interner::store_like`], for a term of any table.
     #[inline(never)]
-    fn store_any_like(&mut self, node: Node, parts: Parts) -> Result<Node, Refusal>
-        requires owned { node_number node < size self.old.rows (node_table node) }
-        requires has_kind { node_table node ≢ Table.ClauseLists }
-        requires like { AreLike (form_parts (kind_form (stored_kind self.old.rows node))) parts }
+    fn store_any_like(&mut self, handle: AnyHandle, parts: Parts) -> Result<AnyHandle, Refusal>
+        requires owned { handle.number < size self.old.rows (term_table handle.table) }
+        requires has_kind { IsFalse (has_items handle.table) }
+        requires like { AreLike (form_parts (kind_form (stored_kind self.old.rows handle))) parts }
         requires parts { AreParts (size self.old.rows) (parts_shapes parts) }
-        ensures { BuildsLike result self.old self.new node parts }
+        ensures { BuildsLike result self.old self.new handle parts }
     {
         self.are_rows();
-        let kind = self.kind_at(node).with_parts(parts);
+        let kind = self.kind_at(handle).with_parts(parts);
         self.store(kind)
     }
 
-    /// Returns the stored list of these children. They have to be of this interner, which [`Interner::owns_child`]
-    /// tests, and of the sort of the list's items. Refused as [`Interner::mk_tys`] is, and with `NotAClause` if a child
-    /// in a list of clauses is not a clause. More than eight children are collected in a vector before the list is
-    /// looked up, so `Memory` is possible even for a list that is stored already.
-    pub fn store_list(&mut self, sort: ListSort, items: &[Child]) -> Result<List, Refusal>
+    /// Returns the stored list of these children. The table has to be one of lists, which [`TermTable::has_items`]
+    /// tests. The children have to be of this interner, which [`Interner::owns_child`] tests, and of the sort of the
+    /// list's items. Refused as [`Interner::mk_tys`] is, and with `NotAClause` if a child in a list of clauses is not a
+    /// clause. More than eight children are collected in a vector before the list is looked up, so `Memory` is possible
+    /// even for a list that is stored already.
+    pub fn store_list(&mut self, table: TermTable, items: &[Child]) -> Result<AnyHandle, Refusal>
+        requires is_list { IsTrue (has_items table) }
         requires parts { AreParts (size self.old.rows) (children_shapes items.now) }
-        requires fit { All (λ c. IsItem sort (child_sort c)) items.now }
+        requires fit { All (λ c. IsItem table (child_sort c)) items.now }
         // In each case:
         ensures extends { Extends self.old self.new }
         ensures counters { self.new.counters ≡ self.old.counters }
         // On success:
-        ensures in_range { IfOk result (λ l. list_number l < size self.new.rows (sort_list_table sort)) }
-        ensures means { IfOk result (λ l. meaning self.new.rows (sort_list_table sort) (list_number l)
-            ≡ items_tree sort (fill_all (meaning self.old.rows) (children_shapes items.now))) }
-        ensures sort { IfOk result (λ l. list_sort l ≡ sort) }
+        ensures in_range { IfOk result (λ l. l.number < size self.new.rows (term_table table)) }
+        ensures means { IfOk result (λ l. meaning self.new.rows (term_table table) l.number
+            ≡ items_tree table (fill_all (meaning self.old.rows) (children_shapes items.now))) }
+        ensures table { IfOk result (λ l. l.table ≡ table) }
         ensures stored { IfOk result (λ l. Stores self.old.rows self.new.rows
-            (items_row sort items.now)
-            (list_number l)) }
+            (items_row table items.now)
+            l.number) }
         ensures refused { OnOk result
-            (IsNoClauseList (items_tree sort (fill_all (meaning self.old.rows) (children_shapes items.now))) → ⊥) }
+            (IsNoClauseList (items_tree table (fill_all (meaning self.old.rows) (children_shapes items.now))) → ⊥) }
         // On a refusal:
         ensures err { OnErr result (self.new ≡ self.old) }
         ensures cause { IfErr result
-            (IsUnbuilt self.old (items_tree sort (fill_all (meaning self.old.rows) (children_shapes items.now)))) }
+            (IsUnbuilt self.old (items_tree table (fill_all (meaning self.old.rows) (children_shapes items.now)))) }
         // If there is such a list:
-        ensures found { (n : ℕ) → IsAt self.old.rows (items_row sort items.now) n
-            → (((l : _) × (result ≡ Ok l) × (list_number l ≡ n)) × (self.new ≡ self.old))
+        ensures found { (n : ℕ) → IsAt self.old.rows (items_row table items.now) n
+            → (((l : _) × (result ≡ Ok l) × (l.number ≡ n)) × (self.new ≡ self.old))
             ⊎ LacksItems result items.now }
         // If there is none:
-        ensures full { IsNew (items_row sort items.now) self.old.rows
-            → (IsNoClauseList (children_tree self.old.rows sort items.now) → ⊥)
-            → self.old.limit ≤ size self.old.rows (sort_list_table sort)
+        ensures full { IsNew (items_row table items.now) self.old.rows
+            → (IsNoClauseList (children_tree self.old.rows table items.now) → ⊥)
+            → self.old.limit ≤ size self.old.rows (term_table table)
             → (result ≡ Err Refusal.TableFull) ⊎ LacksItems result items.now }
-        ensures other { IsNoClauseList (children_tree self.old.rows sort items.now)
+        ensures other { IsNoClauseList (children_tree self.old.rows table items.now)
             → (result ≡ Err Refusal.NotAClause) ⊎ LacksItems result items.now }
     {
-        match sort {
-            ListSort::Tys => store_items::<Ty>(self, items),
-            ListSort::Consts => store_items::<Const>(self, items),
-            ListSort::Args => store_items::<GenericArg>(self, items),
-            ListSort::Pats => store_items::<Pat>(self, items),
-            ListSort::Existentials => store_items::<PolyExistentialPredicate>(self, items),
-            ListSort::Clauses => store_items::<Clause>(self, items),
+        match table {
+            TermTable::TypeLists => store_items::<Ty>(self, items),
+            TermTable::ConstLists => store_items::<Const>(self, items),
+            TermTable::ArgLists => store_items::<GenericArg>(self, items),
+            TermTable::PatternLists => store_items::<Pat>(self, items),
+            TermTable::ExistentialLists => store_items::<PolyExistentialPredicate>(self, items),
+            TermTable::ClauseLists => store_items::<Clause>(self, items),
+            _ => unreachable!(),
         }
     }
 }

@@ -22,8 +22,6 @@ use Rattle.tt_kinds.specs.declared.parts.Child.{Child}
 use Rattle.tt_kinds.specs.declared.parts.Child.TheVariants as child
 use Rattle.tt_kinds.specs.declared.parts.Kind.{Kind}
 use Rattle.tt_kinds.specs.declared.parts.Kind.TheVariants as kind
-use Rattle.tt_kinds.specs.declared.parts.List.TheVariants as list
-use Rattle.tt_kinds.specs.declared.parts.Node.TheVariants as node
 use Rattle.tt_kinds.specs.declared.parts.Parts.{Parts}
 use Rattle.tt_kinds.specs.declared.pattern.PatternKind.TheVariants as pattern
 use Rattle.tt_kinds.specs.declared.placeholder.Placeholder.{Placeholder}
@@ -46,7 +44,8 @@ use Rattle.tt_kinds.specs.Handle.{BoundVarKinds}
 use Rattle.tt_kinds.specs.Id.{id_of}
 use Rattle.tt_kinds.specs.Kinds.{form_parts, form_binder, kind_form, kind_sort}
 use Rattle.tt_kinds.specs.OwnFlags.{own_flags, own_reach}
-use Rattle.tt_kinds.specs.Parts.{no_parts, one_part, two_parts}
+use Rattle.tt_kinds.specs.Parts.{child_in, no_parts, one_part, two_parts}
+use Rattle.tt_kinds.specs.declared.table.TermTable.TheVariants as table
 
 -- what a table says of a kind: its own flags, how far it reaches by itself, the variables of the binder around its
 -- children, and its children
@@ -111,16 +110,16 @@ vars = handle 0
 
 -- these as children
 abbrev the_type : Ty → Child
-the_type x = child.Node (node.Ty x)
+the_type x = child_in table.Types x
 
 abbrev the_const : Const → Child
-the_const x = child.Node (node.Const x)
+the_const x = child_in table.Consts x
 
 abbrev the_tys : Child
-the_tys = child.List (list.Tys tys)
+the_tys = child_in table.TypeLists tys
 
 abbrev the_args : Child
-the_args = child.List (list.Args args)
+the_args = child_in table.ArgLists args
 
 -- a type and a constant as terms
 abbrev pub type_term : Ty → Term
@@ -181,12 +180,12 @@ type_nodes : Agree kind.Ty (
     ∷ (ty.Coroutine (id_of 0) args, around 0x2000000 (one_part the_args))
     ∷ (ty.CoroutineWitness (id_of 0) args, plain (one_part the_args))
     ∷ (ty.Array t c, plain (two_parts (the_type t) (the_const c)))
-    ∷ (ty.Pat t p, plain (two_parts (the_type t) (child.Node (node.Pat p))))
+    ∷ (ty.Pat t p, plain (two_parts (the_type t) (child_in table.Patterns p)))
     ∷ (ty.Slice t, plain (one_part (the_type t)))
     ∷ (ty.RawPtr t mutability.Mut, plain (one_part (the_type t)))
     ∷ (ty.Ref ReStatic t mutability.«Not», plain (two_parts (child.Region ReStatic) (the_type t)))
     ∷ (ty.Tuple tys, plain (one_part the_tys))
-    ∷ (ty.Dynamic existentials ReErased, plain (two_parts (child.List (list.Existentials existentials)) (child.Region ReErased)))
+    ∷ (ty.Dynamic existentials ReErased, plain (two_parts (child_in table.ExistentialLists existentials) (child.Region ReErased)))
     ∷ [])
 type_nodes = refl
 
@@ -225,7 +224,7 @@ const_kinds : Agree kind.Const (
     ∷ (const.Error (record { 0 = 1 }), flagged 0x8000)
     ∷ (const.Unevaluated (record { def = id_of 0; args = args }), around 0x4000 (one_part the_args))
     ∷ (value_of (valtree.Leaf (record { bits = 7; size = 1 })), plain (one_part (the_type t)))
-    ∷ (value_of (valtree.Branch consts), plain (two_parts (the_type t) (child.List (list.Consts consts))))
+    ∷ (value_of (valtree.Branch consts), plain (two_parts (the_type t) (child_in table.ConstLists consts)))
     ∷ (const.Expr (record { tag = 5; args = args }), plain (one_part the_args))
     ∷ [])
 const_kinds = refl
@@ -233,7 +232,7 @@ const_kinds = refl
 -- patterns have no flag of their own: their children in order
 pattern_kinds : Agree kind.Pat (
     (pattern.Range c d, plain (two_parts (the_const c) (the_const d)))
-    ∷ (pattern.Or pats, plain (one_part (child.List (list.Pats pats))))
+    ∷ (pattern.Or pats, plain (one_part (child_in table.PatternLists pats)))
     ∷ (pattern.NotNull, plain no_parts)
     ∷ [])
 pattern_kinds = refl

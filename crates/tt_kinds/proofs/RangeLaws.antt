@@ -81,8 +81,7 @@ region-unbound (ReError e) = refl
 child-unbound : (c : Child) → binders_among (child_shapes c) ≡ 0
 child-unbound child.Absent = refl
 child-unbound (child.Region r) = let region = region-unbound r in omega arith
-child-unbound (child.Node n) = refl
-child-unbound (child.List l) = refl
+child-unbound (child.Stored r) = refl
 
 append-unbound : (ss us : Shapes) → binders_among ss ≡ 0 → binders_among us ≡ 0 → binders_among (append ss us) ≡ 0
 append-unbound none us h k = k

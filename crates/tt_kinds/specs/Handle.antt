@@ -1,6 +1,8 @@
 -- Handles by what they name.
 use Rattle.std.specs.Prelude.{ℕ}
 use Rattle.tt_kinds.specs.declared.handle.Handle.{Handle}
+use Rattle.tt_kinds.specs.declared.handle.AnyHandle.{AnyHandle}
+use Rattle.tt_kinds.specs.declared.table.TermTable.{TermTable}
 use Rattle.tt_kinds.specs.declared.handle.TypeRow.{TypeRow}
 use Rattle.tt_kinds.specs.declared.handle.ConstRow.{ConstRow}
 use Rattle.tt_kinds.specs.declared.handle.PatternRow.{PatternRow}
@@ -20,6 +22,10 @@ use Rattle.tt_kinds.specs.declared.handle.SymbolRow.{SymbolRow}
 -- the handle of a number
 abbrev pub handle : {K : Type 0} → ℕ → Handle K
 handle n = record { number = n; of = record {} }
+
+-- the row that a handle of the table names
+abbrev pub any_handle : {K : Type 0} → TermTable → Handle K → AnyHandle
+any_handle t h = record { table = t; number = h.number }
 
 -- a type
 abbrev pub Ty : Type 0

@@ -1,5 +1,5 @@
 -- The table of kinds: the label of each, and its children in order. The tree of a kind comes from this table alone.
-use Rattle.std.specs.Prelude.{ℕ, List, [], ◌∷◌, map, Option, Some, None}
+use Rattle.std.specs.Prelude.{ℕ, List, [], ◌∷◌, map, Option, Some, None, cond}
 use Rattle.tt_kinds.specs.Label.{Sort, region_sort, type_sort, const_sort, Entry, static_region, erased_region}
 use Rattle.tt_kinds.specs.Label.{region_var, error_region, late_param_region, placeholder_region, TypeLabel, bool_type}
 use Rattle.tt_kinds.specs.Label.{char_type, int_type, uint_type, float_type, str_type, never_type, placeholder_type}
@@ -22,9 +22,12 @@ use Rattle.tt_kinds.specs.Tree.{Depth, Tree, Forest}
 use Rattle.tt_kinds.specs.Bound.{depth, region_name, region_entry, ty_entry, const_entry, var_kind}
 use Rattle.tt_kinds.specs.Shape as shape
 use Rattle.tt_kinds.specs.Shape.{Shape, Shapes, append, item_shapes}
-use Rattle.tt_kinds.specs.Parts.{node_table, node_number, list_table, list_number, no_parts, one_part, two_parts}
+use Rattle.tt_kinds.specs.Parts.{child_in, no_parts, one_part, two_parts}
 use Rattle.tt_kinds.specs.Parts.{term_child}
 use Rattle.tt_kinds.specs.declared.table.Table.{Table}
+use Rattle.tt_kinds.specs.declared.table.TermTable.{TermTable}
+use Rattle.tt_kinds.specs.declared.table.TermTable.TheVariants as terms_of
+use Rattle.tt_kinds.specs.TermTable.{is_clause_table, term_table}
 use Rattle.tt_kinds.specs.declared.table.Table.TheVariants.{Types, Consts, Patterns, Predicates, Existentials}
 use Rattle.tt_kinds.specs.declared.table.Table.TheVariants.{ClauseLists, TypeLists, ConstLists, ArgLists, PatternLists}
 use Rattle.tt_kinds.specs.declared.table.Table.TheVariants.{ExistentialLists}
@@ -66,12 +69,7 @@ use Rattle.tt_kinds.specs.declared.predicate_kind.PredicateKind.{PredicateKind}
 use Rattle.tt_kinds.specs.declared.predicate_kind.PredicateKind.TheVariants as predicate
 use Rattle.tt_kinds.specs.declared.existential.ExistentialPredicate.{ExistentialPredicate}
 use Rattle.tt_kinds.specs.declared.existential.ExistentialPredicate.TheVariants as existential
-use Rattle.tt_kinds.specs.declared.parts.Node.{Node}
-use Rattle.tt_kinds.specs.declared.parts.Node.TheVariants as node
-use Rattle.tt_kinds.specs.declared.parts.List.TheVariants as list
-use Rattle.tt_kinds.specs.declared.parts.ListSort.{ListSort}
-use Rattle.tt_kinds.specs.declared.parts.ListSort.TheVariants as sort
-use Rattle.tt_kinds.specs.declared.parts.List.{List as StoredList}
+use Rattle.tt_kinds.specs.declared.handle.AnyHandle.{AnyHandle}
 use Rattle.tt_kinds.specs.declared.parts.Child.{Child}
 use Rattle.tt_kinds.specs.declared.parts.Child.TheVariants as child
 use Rattle.tt_kinds.specs.declared.parts.Parts.{Parts}
@@ -130,30 +128,30 @@ ty_form (ty.Bound i b) = bound (depth i) (ty_entry b)
 ty_form (ty.Placeholder p) = plain (placeholder_type p) no_parts
 ty_form (ty.Infer i) = plain (infer_type i) no_parts
 ty_form (ty.Error e) = plain (error_type e.0) no_parts
-ty_form (ty.Ref r t m) = plain (ref_type m) (two_parts (child.Region r) (child.Node (node.Ty t)))
-ty_form (ty.RawPtr t m) = plain (raw_ptr_type m) (one_part (child.Node (node.Ty t)))
-ty_form (ty.Slice t) = plain slice_type (one_part (child.Node (node.Ty t)))
-ty_form (ty.Tuple ts) = plain tuple_type (one_part (child.List (list.Tys ts)))
+ty_form (ty.Ref r t m) = plain (ref_type m) (two_parts (child.Region r) (child_in terms_of.Types t))
+ty_form (ty.RawPtr t m) = plain (raw_ptr_type m) (one_part (child_in terms_of.Types t))
+ty_form (ty.Slice t) = plain slice_type (one_part (child_in terms_of.Types t))
+ty_form (ty.Tuple ts) = plain tuple_type (one_part (child_in terms_of.TypeLists ts))
 ty_form (ty.FnPtr b h) = under (fn_ptr_type h) b.bound_vars fn_sig_tys_record
-    (one_part (child.List (list.Tys b.value.inputs_and_output)))
+    (one_part (child_in terms_of.TypeLists b.value.inputs_and_output))
 ty_form (ty.Foreign d) = plain (foreign_type d.number) no_parts
-ty_form (ty.Adt d args) = plain (adt_type d.number) (one_part (child.List (list.Args args)))
-ty_form (ty.FnDef d args) = plain (fn_def_type d.number) (one_part (child.List (list.Args args)))
-ty_form (ty.Array t c) = plain array_type (two_parts (child.Node (node.Ty t)) (child.Node (node.Const c)))
-ty_form (ty.Pat t p) = plain pat_type (two_parts (child.Node (node.Ty t)) (child.Node (node.Pat p)))
+ty_form (ty.Adt d args) = plain (adt_type d.number) (one_part (child_in terms_of.ArgLists args))
+ty_form (ty.FnDef d args) = plain (fn_def_type d.number) (one_part (child_in terms_of.ArgLists args))
+ty_form (ty.Array t c) = plain array_type (two_parts (child_in terms_of.Types t) (child_in terms_of.Consts c))
+ty_form (ty.Pat t p) = plain pat_type (two_parts (child_in terms_of.Types t) (child_in terms_of.Patterns p))
 ty_form (ty.UnsafeBinder b) = under unsafe_binder_type b.0.bound_vars unsafe_binder_record
-    (one_part (child.Node (node.Ty b.0.value)))
-ty_form (ty.Dynamic ps r) = plain dynamic_type (two_parts (child.List (list.Existentials ps)) (child.Region r))
-ty_form (ty.Closure d args) = plain (closure_type d.number) (one_part (child.List (list.Args args)))
-ty_form (ty.CoroutineClosure d args) = plain (coroutine_closure_type d.number) (one_part (child.List (list.Args args)))
-ty_form (ty.Coroutine d args) = plain (coroutine_type d.number) (one_part (child.List (list.Args args)))
-ty_form (ty.CoroutineWitness d args) = plain (coroutine_witness_type d.number) (one_part (child.List (list.Args args)))
-ty_form (ty.Alias a) = plain (alias_type a.kind) (one_part (child.List (list.Args a.args)))
+    (one_part (child_in terms_of.Types b.0.value))
+ty_form (ty.Dynamic ps r) = plain dynamic_type (two_parts (child_in terms_of.ExistentialLists ps) (child.Region r))
+ty_form (ty.Closure d args) = plain (closure_type d.number) (one_part (child_in terms_of.ArgLists args))
+ty_form (ty.CoroutineClosure d args) = plain (coroutine_closure_type d.number) (one_part (child_in terms_of.ArgLists args))
+ty_form (ty.Coroutine d args) = plain (coroutine_type d.number) (one_part (child_in terms_of.ArgLists args))
+ty_form (ty.CoroutineWitness d args) = plain (coroutine_witness_type d.number) (one_part (child_in terms_of.ArgLists args))
+ty_form (ty.Alias a) = plain (alias_type a.kind) (one_part (child_in terms_of.ArgLists a.args))
 
 -- a value of the type
 abbrev pub value_form : Ty → ValTreeKind → Form ConstLabel
-value_form t (valtree.Leaf s) = plain (leaf_const s.bits s.size) (one_part (child.Node (node.Ty t)))
-value_form t (valtree.Branch cs) = plain branch_const (two_parts (child.Node (node.Ty t)) (child.List (list.Consts cs)))
+value_form t (valtree.Leaf s) = plain (leaf_const s.bits s.size) (one_part (child_in terms_of.Types t))
+value_form t (valtree.Branch cs) = plain branch_const (two_parts (child_in terms_of.Types t) (child_in terms_of.ConstLists cs))
 
 -- constants: the label of each, and its children
 abbrev pub const_form : ConstKind → Form ConstLabel
@@ -161,10 +159,10 @@ const_form (const.Param p) = param p.index p.name.number
 const_form (const.Infer i) = plain (infer_const i) no_parts
 const_form (const.Bound i b) = bound (depth i) (const_entry b)
 const_form (const.Placeholder p) = plain (placeholder_const p) no_parts
-const_form (const.Unevaluated u) = plain (unevaluated_const u.def.number) (one_part (child.List (list.Args u.args)))
+const_form (const.Unevaluated u) = plain (unevaluated_const u.def.number) (one_part (child_in terms_of.ArgLists u.args))
 const_form (const.Value v) = value_form v.ty v.valtree.kind
 const_form (const.Error e) = plain (error_const e.0) no_parts
-const_form (const.Expr e) = plain (expr_const e.tag) (one_part (child.List (list.Args e.args)))
+const_form (const.Expr e) = plain (expr_const e.tag) (one_part (child_in terms_of.ArgLists e.args))
 
 -- a label with its children, for kinds that are neither parameters nor bound variables; L is the type of the labels
 pub record Labelled (L : Type 0) : Type 0 where
@@ -182,8 +180,8 @@ replenished q f = record { label = f.label; parts = q }
 -- patterns: the label of each, and its children
 abbrev pub pattern_form : PatternKind → Labelled PatternLabel
 pattern_form (pattern.Range start end) = labelled range_pattern
-    (two_parts (child.Node (node.Const start)) (child.Node (node.Const end)))
-pattern_form (pattern.Or ps) = labelled or_pattern (one_part (child.List (list.Pats ps)))
+    (two_parts (child_in terms_of.Consts start) (child_in terms_of.Consts end))
+pattern_form (pattern.Or ps) = labelled or_pattern (one_part (child_in terms_of.PatternLists ps))
 pattern_form pattern.NotNull = labelled not_null_pattern no_parts
 
 -- what is under a predicate's binder
@@ -193,19 +191,19 @@ RecordForm = Labelled (RecordLabel ℕ)
 -- clauses, without their binder: the label of each, and its children
 abbrev pub clause_form : ClauseKind → RecordForm
 clause_form (clause.Trait p) = labelled (trait_record p.trait_ref.def_id.number)
-    (one_part (child.List (list.Args p.trait_ref.args)))
+    (one_part (child_in terms_of.ArgLists p.trait_ref.args))
 clause_form (clause.RegionOutlives p) = labelled region_outlives_record
     (two_parts (child.Region p.0) (child.Region p.1))
 clause_form (clause.TypeOutlives p) = labelled type_outlives_record
-    (two_parts (child.Node (node.Ty p.0)) (child.Region p.1))
+    (two_parts (child_in terms_of.Types p.0) (child.Region p.1))
 clause_form (clause.Projection p) = labelled (projection_record p.projection_term.def_id.number)
-    (two_parts (child.List (list.Args p.projection_term.args)) (term_child p.term))
+    (two_parts (child_in terms_of.ArgLists p.projection_term.args) (term_child p.term))
 clause_form (clause.ConstArgHasType c t) = labelled const_has_type_record
-    (two_parts (child.Node (node.Const c)) (child.Node (node.Ty t)))
+    (two_parts (child_in terms_of.Consts c) (child_in terms_of.Types t))
 clause_form (clause.WellFormed t) = labelled well_formed_record (one_part (term_child t))
-clause_form (clause.ConstEvaluatable c) = labelled const_evaluatable_record (one_part (child.Node (node.Const c)))
+clause_form (clause.ConstEvaluatable c) = labelled const_evaluatable_record (one_part (child_in terms_of.Consts c))
 clause_form (clause.HostEffect p) = labelled (host_effect_record p.trait_ref.def_id.number p.constness)
-    (one_part (child.List (list.Args p.trait_ref.args)))
+    (one_part (child_in terms_of.ArgLists p.trait_ref.args))
 clause_form (clause.UnstableFeature s) = labelled (unstable_feature_record s.number) no_parts
 
 -- predicates, without their binder: the label of each, and its children
@@ -213,23 +211,23 @@ abbrev pub predicate_form : PredicateKind → RecordForm
 predicate_form (predicate.Clause c) = clause_form c
 predicate_form (predicate.DynCompatible d) = labelled (dyn_compatible_record d.number) no_parts
 predicate_form (predicate.Subtype p) = labelled (subtype_record p.a_is_expected)
-    (two_parts (child.Node (node.Ty p.a)) (child.Node (node.Ty p.b)))
+    (two_parts (child_in terms_of.Types p.a) (child_in terms_of.Types p.b))
 predicate_form (predicate.Coerce p) = labelled coerce_record
-    (two_parts (child.Node (node.Ty p.a)) (child.Node (node.Ty p.b)))
+    (two_parts (child_in terms_of.Types p.a) (child_in terms_of.Types p.b))
 predicate_form (predicate.ConstEquate a b) = labelled const_equate_record
-    (two_parts (child.Node (node.Const a)) (child.Node (node.Const b)))
+    (two_parts (child_in terms_of.Consts a) (child_in terms_of.Consts b))
 predicate_form predicate.Ambiguous = labelled ambiguous_record no_parts
 predicate_form (predicate.NormalizesTo p) = labelled (normalizes_to_record p.alias.def_id.number)
-    (two_parts (child.List (list.Args p.alias.args)) (term_child p.term))
+    (two_parts (child_in terms_of.ArgLists p.alias.args) (term_child p.term))
 predicate_form (predicate.AliasRelate a b r) = labelled (alias_relate_record r)
     (two_parts (term_child a) (term_child b))
 
 -- existential predicates, without their binder: the label of each, and its children
 abbrev pub existential_form : ExistentialPredicate → RecordForm
 existential_form (existential.Trait t) = labelled (existential_trait_record t.def_id.number)
-    (one_part (child.List (list.Args t.args)))
+    (one_part (child_in terms_of.ArgLists t.args))
 existential_form (existential.Projection p) = labelled (existential_projection_record p.def_id.number)
-    (two_parts (child.List (list.Args p.args)) (term_child p.term))
+    (two_parts (child_in terms_of.ArgLists p.args) (term_child p.term))
 existential_form (existential.AutoTrait d) = labelled (auto_trait_record d.number) no_parts
 
 -- what is under a binder of these variables, as the form of a kind
@@ -245,12 +243,12 @@ kind_form (kind.Predicate b) = under_form predicate_label b.bound_vars (predicat
 kind_form (kind.Existential b) = under_form existential_label b.bound_vars (existential_form b.value)
 
 -- the table of a kind
-abbrev pub kind_table : Kind → Table
-kind_table (kind.Ty k) = Types
-kind_table (kind.Const k) = Consts
-kind_table (kind.Pat k) = Patterns
-kind_table (kind.Predicate b) = Predicates
-kind_table (kind.Existential b) = Existentials
+abbrev pub kind_table : Kind → TermTable
+kind_table (kind.Ty k) = terms_of.Types
+kind_table (kind.Const k) = terms_of.Consts
+kind_table (kind.Pat k) = terms_of.Patterns
+kind_table (kind.Predicate b) = terms_of.Predicates
+kind_table (kind.Existential b) = terms_of.Existentials
 
 -- the sort of a kind that is a parameter or a bound variable; without meaning for patterns and predicates
 abbrev pub kind_sort : Kind → Sort
@@ -319,13 +317,9 @@ existentials_shape ps = shape.stored ExistentialLists ps.number
 abbrev pub clauses_shape : Clauses → Shape
 clauses_shape cs = shape.stored ClauseLists cs.number
 
--- a stored term, by its handle
-abbrev pub node_shape : Node → Shape
-node_shape n = shape.stored (node_table n) (node_number n)
-
--- a stored list, by its handle
-abbrev pub list_shape : StoredList → Shape
-list_shape l = shape.stored (list_table l) (list_number l)
+-- a stored term or list, by its row
+abbrev pub handle_shape : AnyHandle → Shape
+handle_shape r = shape.stored (term_table r.table) r.number
 
 -- a generic argument
 abbrev pub arg_shape : GenericArgKind → Shape
@@ -346,8 +340,7 @@ term_shape t = term_kind_shape t.kind
 abbrev pub child_shapes : Child → Shapes
 child_shapes child.Absent = shape.none
 child_shapes (child.Region r) = shape.also (region_shape r) shape.none
-child_shapes (child.Node n) = shape.also (node_shape n) shape.none
-child_shapes (child.List l) = shape.also (list_shape l) shape.none
+child_shapes (child.Stored r) = shape.also (handle_shape r) shape.none
 
 -- the children in order
 abbrev pub parts_shapes : Parts → Shapes
@@ -428,32 +421,19 @@ existentials_row_shape ps = shape.node (list_label ExistentialLists) (item_shape
 abbrev pub clauses_row_shape : List Clause → Shape
 clauses_row_shape cs = shape.term clause_list_label (item_shapes clause_shape cs)
 
--- the label of a list, by the sort of its items
-abbrev pub items_label : {N : Type 0} → ListSort → Label N
-items_label sort.Tys = list_label TypeLists
-items_label sort.Consts = list_label ConstLists
-items_label sort.Args = list_label ArgLists
-items_label sort.Pats = list_label PatternLists
-items_label sort.Existentials = list_label ExistentialLists
-items_label sort.Clauses = clause_list_label
+-- the label of a list, by its table
+abbrev pub items_label : {N : Type 0} → TermTable → Label N
+items_label t = cond (is_clause_table t) clause_list_label (list_label (term_table t))
 
--- the shape of a list's row, by the sort of its items
-abbrev pub items_shape : ListSort → Shapes → Shape
-items_shape sort.Tys ss = shape.node (list_label TypeLists) ss
-items_shape sort.Consts ss = shape.node (list_label ConstLists) ss
-items_shape sort.Args ss = shape.node (list_label ArgLists) ss
-items_shape sort.Pats ss = shape.node (list_label PatternLists) ss
-items_shape sort.Existentials ss = shape.node (list_label ExistentialLists) ss
-items_shape sort.Clauses ss = shape.term clause_list_label ss
+-- the shape of a list's row, by its table
+abbrev pub items_shape : TermTable → Shapes → Shape
+items_shape t ss = cond (is_clause_table t) (shape.term clause_list_label ss)
+    (shape.node (list_label (term_table t)) ss)
 
--- the tree of a list, by the sort of its items
-abbrev pub items_tree : {I : Type 0} → ListSort → Forest I → Tree I
-items_tree sort.Tys ts = tree.node (list_label TypeLists) ts
-items_tree sort.Consts ts = tree.node (list_label ConstLists) ts
-items_tree sort.Args ts = tree.node (list_label ArgLists) ts
-items_tree sort.Pats ts = tree.node (list_label PatternLists) ts
-items_tree sort.Existentials ts = tree.node (list_label ExistentialLists) ts
-items_tree sort.Clauses ts = tree.term clause_list_label ts
+-- the tree of a list, by its table
+abbrev pub items_tree : {I : Type 0} → TermTable → Forest I → Tree I
+items_tree t ts = cond (is_clause_table t) (tree.term clause_list_label ts)
+    (tree.node (list_label (term_table t)) ts)
 
 -- the shape of the row of a binder's list of variables
 abbrev pub vars_row_shape : List BoundVariableKind → Shape

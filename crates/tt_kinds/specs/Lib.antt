@@ -22,6 +22,7 @@ pub mod RegionKind
 pub mod FnSig
 pub mod Variant
 pub mod Shape
+pub mod TermTable
 pub mod Parts
 pub mod Range
 pub mod Fitting

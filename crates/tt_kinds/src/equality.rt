@@ -18,9 +18,9 @@ use crate::existential::{ExistentialPredicate, ExistentialProjection, Existentia
 use crate::field::FieldInfo;
 use crate::fn_sig::{CoroutineWitnessTypes, FnHeader, FnSig, FnSigKind, FnSigTys};
 use crate::generic_arg::{GenericArg, GenericArgKind};
-use crate::handle::Handle;
+use crate::handle::{AnyHandle, Handle};
 use crate::id::{DefId, Id};
-use crate::parts::{Child, Kind, List, ListSort, Node, Parts};
+use crate::parts::{Child, Kind, Parts};
 use crate::pattern::PatternKind;
 use crate::placeholder::Placeholder;
 use crate::predicate::{
@@ -29,7 +29,7 @@ use crate::predicate::{
 };
 use crate::predicate_kind::{AliasRelationDirection, ClauseKind, PredicateKind};
 use crate::region_kind::{EarlyParamRegion, LateParamRegion, Region, RegionKind};
-use crate::table::Table;
+use crate::table::{Table, TermTable};
 use crate::term::{Term, TermKind};
 use crate::ty_kind::{
     FloatVarValue, InferTy, IntVarValue, ParamTy, TyKind, TypeAndMut, UnsafeBinderInner,
@@ -69,6 +69,7 @@ pub fn equal_records_are_same<T: PartialEq, M>()
     ensures handle { IsSameness ⟦<Handle<M> as PartialEq>⟧.eq }
     ensures def_id { IsSameness ⟦<DefId as PartialEq>⟧.eq }
     ensures id { IsSameness ⟦<Id<M> as PartialEq>⟧.eq }
+    ensures any_handle { IsSameness ⟦<AnyHandle as PartialEq>⟧.eq }
     ensures placeholder { IsSameness T.eq → IsSameness ⟦<Placeholder<T> as PartialEq>⟧.eq }
     ensures coerce_predicate { IsSameness ⟦<CoercePredicate as PartialEq>⟧.eq }
     ensures host_effect_predicate { IsSameness ⟦<HostEffectPredicate as PartialEq>⟧.eq }
@@ -108,15 +109,13 @@ pub fn equal_kinds_are_same()
     ensures generic_arg_kind { IsSameness ⟦<GenericArgKind as PartialEq>⟧.eq }
     ensures child { IsSameness ⟦<Child as PartialEq>⟧.eq }
     ensures kind { IsSameness ⟦<Kind as PartialEq>⟧.eq }
-    ensures list { IsSameness ⟦<List as PartialEq>⟧.eq }
-    ensures list_sort { IsSameness ⟦<ListSort as PartialEq>⟧.eq }
-    ensures node { IsSameness ⟦<Node as PartialEq>⟧.eq }
     ensures pattern_kind { IsSameness ⟦<PatternKind as PartialEq>⟧.eq }
     ensures bound_constness { IsSameness ⟦<BoundConstness as PartialEq>⟧.eq }
     ensures alias_relation_direction { IsSameness ⟦<AliasRelationDirection as PartialEq>⟧.eq }
     ensures clause_kind { IsSameness ⟦<ClauseKind as PartialEq>⟧.eq }
     ensures predicate_kind { IsSameness ⟦<PredicateKind as PartialEq>⟧.eq }
     ensures region_kind { IsSameness ⟦<RegionKind as PartialEq>⟧.eq }
+    ensures term_table { IsSameness ⟦<TermTable as PartialEq>⟧.eq }
     ensures table { IsSameness ⟦<Table as PartialEq>⟧.eq }
     ensures term_kind { IsSameness ⟦<TermKind as PartialEq>⟧.eq }
     ensures float_var_value { IsSameness ⟦<FloatVarValue as PartialEq>⟧.eq }

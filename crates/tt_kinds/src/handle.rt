@@ -3,12 +3,15 @@
 //! Two handles of one interner and one type are equal exactly when they name the same term. Handles of different
 //! interners can't be told apart.
 
-ghost use Rattle.std.specs.Prelude.{◌≡◌};
-ghost use Rattle.tt_kinds.specs.Handle.{handle};
+ghost use Rattle.std.specs.Prelude.{◌≡◌, refl};
+ghost use Rattle.tt_kinds.specs.Handle.{handle, any_handle};
 ghost use Rattle.tt_kinds.specs.declared.table.Table.{Table};
 ghost use Rattle.tt_kinds.specs.declared.table.Table.TheVariants as table;
+ghost use Rattle.tt_kinds.specs.declared.table.TermTable.{TermTable};
+ghost use Rattle.tt_kinds.specs.declared.table.TermTable.TheVariants as terms_of;
+ghost use Rattle.tt_kinds.specs.TermTable.{term_table};
 
-use crate::table::Table;
+use crate::table::{Table, TermTable};
 use std::default::Default;
 use std::marker::PhantomData;
 
@@ -41,12 +44,55 @@ impl<K> Handle<K> {
     }
 }
 
+/// A handle of a stored term, or of a stored list of terms, that has its table as a value.
+#[derive(Clone, Copy, Debug, PartialEq, Eq)]
+pub struct AnyHandle {
+    /// The table of the row.
+    pub table: TermTable,
+    /// The number of the row in its table.
+    pub number: u32,
+}
+
+impl AnyHandle {
+    /// Returns the handle with a mark in place of the table. The mark has to be of this table.
+    #[inline(always)]
+    pub fn typed<K: IsTermRow>(self) -> Handle<K>
+        requires { self.table ≡ K.IsTermRow.TERM_TABLE }
+        ensures { self ≡ any_handle K.IsTermRow.TERM_TABLE result }
+    {
+        Handle::from_number(self.number)
+    }
+}
+
+impl<K: IsTermRow> Handle<K> {
+    /// Returns the handle with its table as a value.
+    #[inline(always)]
+    pub fn any(self) -> AnyHandle
+        ensures { result ≡ any_handle K.IsTermRow.TERM_TABLE self }
+    {
+        AnyHandle {
+            table: K::TERM_TABLE,
+            number: self.number(),
+        }
+    }
+}
+
 /// A mark of handles. It gives the table of their rows. Clauses are rows of the table of predicates.
 pub trait IsStored {
     ghost TABLE: { Table };
 
     /// The table of these rows.
     const TABLE: Table;
+}
+
+/// A mark of handles of terms, or of lists of terms.
+pub trait IsTermRow: IsStored {
+    ghost TERM_TABLE: { TermTable };
+
+    ghost same_table: { term_table TERM_TABLE ≡ Self.IsStored.TABLE };
+
+    /// The table of these rows.
+    const TERM_TABLE: TermTable;
 }
 
 /// A mark of handles whose table has a first row in every interner from the start: the empty list, or the anonymous
@@ -71,6 +117,14 @@ impl IsStored for TypeRow {
     const TABLE: Table = Table::Types;
 }
 
+impl IsTermRow for TypeRow {
+    ghost TERM_TABLE = { terms_of.Types };
+
+    ghost same_table = { refl };
+
+    const TERM_TABLE: TermTable = TermTable::Types;
+}
+
 /// A type: the handle of a stored [`TyKind`](crate::TyKind).
 pub type Ty = Handle<TypeRow>;
 
@@ -93,6 +147,14 @@ impl IsStored for ConstRow {
     const TABLE: Table = Table::Consts;
 }
 
+impl IsTermRow for ConstRow {
+    ghost TERM_TABLE = { terms_of.Consts };
+
+    ghost same_table = { refl };
+
+    const TERM_TABLE: TermTable = TermTable::Consts;
+}
+
 /// A constant of the type level, such as the length of an array.
 pub type Const = Handle<ConstRow>;
 
@@ -103,6 +165,14 @@ impl IsStored for PatternRow {
     ghost TABLE = { table.Patterns };
 
     const TABLE: Table = Table::Patterns;
+}
+
+impl IsTermRow for PatternRow {
+    ghost TERM_TABLE = { terms_of.Patterns };
+
+    ghost same_table = { refl };
+
+    const TERM_TABLE: TermTable = TermTable::Patterns;
 }
 
 /// A pattern that restricts a type.
@@ -117,6 +187,14 @@ impl IsStored for PredicateRow {
     const TABLE: Table = Table::Predicates;
 }
 
+impl IsTermRow for PredicateRow {
+    ghost TERM_TABLE = { terms_of.Predicates };
+
+    ghost same_table = { refl };
+
+    const TERM_TABLE: TermTable = TermTable::Predicates;
+}
+
 /// A condition on terms, such as that a type implements a trait.
 pub type Predicate = Handle<PredicateRow>;
 
@@ -127,6 +205,14 @@ impl IsStored for ClauseRow {
     ghost TABLE = { table.Predicates };
 
     const TABLE: Table = Table::Predicates;
+}
+
+impl IsTermRow for ClauseRow {
+    ghost TERM_TABLE = { terms_of.Predicates };
+
+    ghost same_table = { refl };
+
+    const TERM_TABLE: TermTable = TermTable::Predicates;
 }
 
 /// A predicate that may be in a list of assumptions.
@@ -141,6 +227,14 @@ impl IsStored for ExistentialRow {
     const TABLE: Table = Table::Existentials;
 }
 
+impl IsTermRow for ExistentialRow {
+    ghost TERM_TABLE = { terms_of.Existentials };
+
+    ghost same_table = { refl };
+
+    const TERM_TABLE: TermTable = TermTable::Existentials;
+}
+
 /// A predicate of a trait object on the type that it hides, under its own binder: the handle of a stored
 /// [`ExistentialPredicate`](crate::ExistentialPredicate).
 pub type PolyExistentialPredicate = Handle<ExistentialRow>;
@@ -152,6 +246,14 @@ impl IsStored for ClauseListRow {
     ghost TABLE = { table.ClauseLists };
 
     const TABLE: Table = Table::ClauseLists;
+}
+
+impl IsTermRow for ClauseListRow {
+    ghost TERM_TABLE = { terms_of.ClauseLists };
+
+    ghost same_table = { refl };
+
+    const TERM_TABLE: TermTable = TermTable::ClauseLists;
 }
 
 impl HasFirst for ClauseListRow {}
@@ -170,6 +272,14 @@ impl IsStored for ArgListRow {
     const TABLE: Table = Table::ArgLists;
 }
 
+impl IsTermRow for ArgListRow {
+    ghost TERM_TABLE = { terms_of.ArgLists };
+
+    ghost same_table = { refl };
+
+    const TERM_TABLE: TermTable = TermTable::ArgLists;
+}
+
 impl HasFirst for ArgListRow {}
 
 /// A list of generic arguments: types, regions and constants.
@@ -184,6 +294,14 @@ impl IsStored for TypeListRow {
     ghost TABLE = { table.TypeLists };
 
     const TABLE: Table = Table::TypeLists;
+}
+
+impl IsTermRow for TypeListRow {
+    ghost TERM_TABLE = { terms_of.TypeLists };
+
+    ghost same_table = { refl };
+
+    const TERM_TABLE: TermTable = TermTable::TypeLists;
 }
 
 impl HasFirst for TypeListRow {}
@@ -202,6 +320,14 @@ impl IsStored for ConstListRow {
     const TABLE: Table = Table::ConstLists;
 }
 
+impl IsTermRow for ConstListRow {
+    ghost TERM_TABLE = { terms_of.ConstLists };
+
+    ghost same_table = { refl };
+
+    const TERM_TABLE: TermTable = TermTable::ConstLists;
+}
+
 impl HasFirst for ConstListRow {}
 
 /// A list of constants.
@@ -216,6 +342,14 @@ impl IsStored for PatternListRow {
     ghost TABLE = { table.PatternLists };
 
     const TABLE: Table = Table::PatternLists;
+}
+
+impl IsTermRow for PatternListRow {
+    ghost TERM_TABLE = { terms_of.PatternLists };
+
+    ghost same_table = { refl };
+
+    const TERM_TABLE: TermTable = TermTable::PatternLists;
 }
 
 impl HasFirst for PatternListRow {}
@@ -248,6 +382,14 @@ impl IsStored for ExistentialListRow {
     ghost TABLE = { table.ExistentialLists };
 
     const TABLE: Table = Table::ExistentialLists;
+}
+
+impl IsTermRow for ExistentialListRow {
+    ghost TERM_TABLE = { terms_of.ExistentialLists };
+
+    ghost same_table = { refl };
+
+    const TERM_TABLE: TermTable = TermTable::ExistentialLists;
 }
 
 impl HasFirst for ExistentialListRow {}

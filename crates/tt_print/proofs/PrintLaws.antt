@@ -1,6 +1,6 @@
 -- The texts of stored terms: each is its head, then its parts, then its end.
 use Rattle.std.proofs.Common.{◌≡◌, ℕ, List, [], ◌++◌, true, false, refl, ap, sym, ◌∙◌}
-use Rattle.std.specs.Prelude.{Option, Some, None}
+use Rattle.std.specs.Prelude.{Bool, Option, Some, None, cond}
 use Rattle.std.proofs.lemmas.List.{append-nil}
 use Rattle.tt_kinds.specs.Label.{Name, Sort, region_sort, type_sort, const_sort, VarKind, region_variable}
 use Rattle.tt_kinds.specs.Label.{type_variable, const_variable, RegionName, anonymous, printed, named, environment}
@@ -9,9 +9,9 @@ use Rattle.tt_kinds.specs.Label.{ConstLabel, infer_const, PatternLabel, range_pa
 use Rattle.tt_kinds.specs.Label.{pair_record, subtype_record, unstable_feature_record, bare_param_record}
 use Rattle.tt_kinds.specs.Label.{bare_bound_record, bare_type_record, bare_const_record, bare_pattern_record, Label}
 use Rattle.tt_kinds.specs.Label.{type_label, const_label, pattern_label, predicate_label, existential_label}
-use Rattle.tt_kinds.specs.Label.{record_label}
+use Rattle.tt_kinds.specs.Label.{record_label, clause_list_label, list_label}
 use Rattle.tt_kinds.specs.Tree as tree
-use Rattle.tt_kinds.specs.Tree.{Depth, at, canonical, Tree, Forest, none, also, count_trees}
+use Rattle.tt_kinds.specs.Tree.{Depth, at, canonical, Tree, Forest, none, also, node, term, count_trees}
 use Rattle.tt_kinds.specs.Shape.{Meaning, Sizes, fill, fill_all, name_of, rename_label, rename_record}
 use Rattle.tt_kinds.specs.Shape.{rename_region, rename_kind, vars_of, IsNamed, IsNamedLabel, IsNamedRecord}
 use Rattle.tt_kinds.specs.Shape.{HasParts, IsPart}
@@ -39,8 +39,8 @@ use Rattle.tt_kinds.specs.declared.region_kind.RegionKind.TheVariants.{ReVar, Re
 use Rattle.tt_kinds.specs.declared.parts.Parts.{Parts}
 use Rattle.tt_kinds.specs.declared.parts.Kind.{Kind}
 use Rattle.tt_kinds.specs.declared.parts.Kind.TheVariants as kind
-use Rattle.tt_kinds.specs.declared.parts.ListSort.{ListSort}
-use Rattle.tt_kinds.specs.declared.parts.ListSort.TheVariants as sort
+use Rattle.tt_kinds.specs.TermTable.{is_clause_table, term_table}
+use Rattle.tt_kinds.specs.declared.table.TermTable.{TermTable}
 use Rattle.tt_print.specs.declared.ir_print.layout.Style.{Style}
 use Rattle.tt_print.specs.declared.ir_print.layout.Style.TheVariants as style
 use Rattle.tt_print.specs.Text.{Head, no_head, head_in, fn_head, variable_head, variable_title}
@@ -275,13 +275,19 @@ module _ (item_name : ℕ → Name) (f : Meaning) where
   region-text s (ReError e) = refl
 
   -- the text of a list, by the style of the term that holds it
-  pub list-text : (s : Style) (o : ListSort) (ts : Forest Depth)
+  pub list-text : (s : Style) (o : TermTable) (ts : Forest Depth)
       → texts item_name (style_in {N = Name} s (items_label o)) 0 ts ++ closing item_name (style_in {N = Name} s (items_label o)) (count_trees ts) ≡ text_in item_name s (items_tree o ts)
-  list-text s sort.Tys ts = refl
-  list-text s _ ts = refl
+  list-text s o ts = by (is_clause_table o)
+    where
+      by : (b : Bool)
+          → texts item_name (style_in {N = Name} s (cond b clause_list_label (list_label (term_table o)))) 0 ts
+          ++ closing item_name (style_in {N = Name} s (cond b clause_list_label (list_label (term_table o)))) (count_trees ts)
+          ≡ text_in item_name s (cond b (term clause_list_label ts) (node (list_label (term_table o)) ts))
+      by true = refl
+      by false = refl
 
   -- what is written of a list is its text
-  pub list-written : (s : Style) (o : ListSort) (ts : Forest Depth) (t : Tree Depth) (x : Style) (n : ℕ) (end : List ℕ) → x ≡ style_in {N = Name} s (items_label o) → t ≡ items_tree o ts
+  pub list-written : (s : Style) (o : TermTable) (ts : Forest Depth) (t : Tree Depth) (x : Style) (n : ℕ) (end : List ℕ) → x ≡ style_in {N = Name} s (items_label o) → t ≡ items_tree o ts
       → n ≡ count_trees ts → end ≡ closing item_name x n → texts item_name x 0 ts ++ end ≡ text_in item_name s t
   list-written s o ts t x n end of_style of_tree of_count of_end = rw (of_end, of_count, of_style, of_tree) (list-text s o ts)
 

@@ -10,10 +10,9 @@ use Rattle.std.proofs.lemmas.Option.{slice_get_within, get_or_from_slice_get}
 use Rattle.tt_kinds.specs.Label.{Name}
 use Rattle.tt_kinds.specs.Tree.{count_trees}
 use Rattle.tt_kinds.specs.Shape.{Shapes, Meaning, fill, fill_all, name_of, append}
-use Rattle.tt_kinds.specs.Kinds.{region_shape, node_shape, list_shape, child_shapes, children_shapes, parts_shapes}
+use Rattle.tt_kinds.specs.Kinds.{region_shape, handle_shape, child_shapes, children_shapes, parts_shapes}
 use Rattle.tt_kinds.specs.Parts.{IsItem, child_sort, one_part}
-use Rattle.tt_kinds.specs.declared.parts.ListSort.{ListSort}
-use Rattle.tt_kinds.specs.declared.parts.ListSort.TheVariants as sort
+use Rattle.tt_kinds.specs.declared.table.TermTable.{TermTable}
 use Rattle.tt_kinds.specs.declared.parts.Child.{Child}
 use Rattle.tt_kinds.specs.declared.parts.Child.TheVariants as child
 use Rattle.tt_kinds.specs.declared.parts.Parts.{Parts}
@@ -29,8 +28,7 @@ module _ (item_name : ℕ → Name) (f : Meaning) (s : Style) where
   unfolding fill_all
   last-text n child.Absent = refl
   last-text n (child.Region r) = ap (λ w. before_child item_name s n true ++ w) (sym (append-nil (text_in item_name s (fill f (region_shape r)))))
-  last-text n (child.Node m) = ap (λ w. before_child item_name s n true ++ w) (sym (append-nil (text_in item_name s (fill f (node_shape m)))))
-  last-text n (child.List l) = ap (λ w. before_child item_name s n true ++ w) (sym (append-nil (text_in item_name s (fill f (list_shape l)))))
+  last-text n (child.Stored m) = ap (λ w. before_child item_name s n true ++ w) (sym (append-nil (text_in item_name s (fill f (handle_shape m)))))
 
   -- a child, and then others
   child-then : (n : ℕ) (c : Child) (us : Shapes) → (c ≡ child.Absent → ⊥)
@@ -40,10 +38,8 @@ module _ (item_name : ℕ → Name) (f : Meaning) (s : Style) where
   child-then n child.Absent us there = absurd (there refl)
   child-then n (child.Region r) us there =
       append_assoc (before_child item_name s n (are_none (fill_all f us))) (text_in item_name s (fill f (region_shape r))) (texts item_name s (suc n) (fill_all f us))
-  child-then n (child.Node m) us there =
-      append_assoc (before_child item_name s n (are_none (fill_all f us))) (text_in item_name s (fill f (node_shape m))) (texts item_name s (suc n) (fill_all f us))
-  child-then n (child.List l) us there =
-      append_assoc (before_child item_name s n (are_none (fill_all f us))) (text_in item_name s (fill f (list_shape l))) (texts item_name s (suc n) (fill_all f us))
+  child-then n (child.Stored m) us there =
+      append_assoc (before_child item_name s n (are_none (fill_all f us))) (text_in item_name s (fill f (handle_shape m))) (texts item_name s (suc n) (fill_all f us))
 
   two-text : (a b : Child)
       → child_text item_name (before_child item_name s 0 (are_none (fill_all f (child_shapes b)))) s (fill_all f (child_shapes a))
@@ -54,12 +50,9 @@ module _ (item_name : ℕ → Name) (f : Meaning) (s : Style) where
   two-text (child.Region r) b =
       ap (λ w. child_text item_name (before_child item_name s 0 (are_none (fill_all f (child_shapes b)))) s (fill_all f (child_shapes (child.Region r))) ++ w) (last-text 1 b)
       ∙ child-then 0 (child.Region r) (child_shapes b) (λ e. let never = e in cc)
-  two-text (child.Node n) b =
-      ap (λ w. child_text item_name (before_child item_name s 0 (are_none (fill_all f (child_shapes b)))) s (fill_all f (child_shapes (child.Node n))) ++ w) (last-text 1 b)
-      ∙ child-then 0 (child.Node n) (child_shapes b) (λ e. let never = e in cc)
-  two-text (child.List l) b =
-      ap (λ w. child_text item_name (before_child item_name s 0 (are_none (fill_all f (child_shapes b)))) s (fill_all f (child_shapes (child.List l))) ++ w) (last-text 1 b)
-      ∙ child-then 0 (child.List l) (child_shapes b) (λ e. let never = e in cc)
+  two-text (child.Stored n) b =
+      ap (λ w. child_text item_name (before_child item_name s 0 (are_none (fill_all f (child_shapes b)))) s (fill_all f (child_shapes (child.Stored n))) ++ w) (last-text 1 b)
+      ∙ child-then 0 (child.Stored n) (child_shapes b) (λ e. let never = e in cc)
 
   -- both parts
   pub parts-text : (p : Parts)
@@ -79,24 +72,17 @@ module _ (f : Meaning) where
   unfolding fill_all
   count-then child.Absent us = omega arith
   count-then (child.Region r) us = omega arith
-  count-then (child.Node n) us = omega arith
-  count-then (child.List l) us = omega arith
+  count-then (child.Stored n) us = omega arith
 
   -- how many parts there are
   pub count-parts : (p : Parts) → count_trees (fill_all f (child_shapes p.first)) + count_trees (fill_all f (child_shapes p.second)) ≡ count_trees (fill_all f (parts_shapes p))
   count-parts p = count-then p.first (child_shapes p.second)
 
 -- a list holds no child that is absent
-item-there : (o : ListSort) (c : Child) → IsItem o (child_sort c) → c ≡ child.Absent → ⊥
+item-there : (o : TermTable) (c : Child) → IsItem o (child_sort c) → c ≡ child.Absent → ⊥
 item-there o (child.Region r) h e = let never = e in cc
-item-there o (child.Node n) h e = let never = e in cc
-item-there o (child.List l) h e = let never = e in cc
-item-there sort.Tys child.Absent h e = h
-item-there sort.Consts child.Absent h e = h
-item-there sort.Args child.Absent h e = h
-item-there sort.Pats child.Absent h e = h
-item-there sort.Existentials child.Absent h e = h
-item-there sort.Clauses child.Absent h e = h
+item-there o (child.Stored n) h e = let never = e in cc
+item-there o child.Absent h e = h
 
 -- the children from a place on are the child at that place and the children after it
 pub drop-from : (list : List Child) (n : ℕ) (x : Child) → slice_get list n ≡ Some x → drop n list ≡ x ∷ drop (n + 1) list
@@ -105,7 +91,7 @@ drop-from list n x here =
     let low : n < length list = slice_get_within list n x here in
     grind (arith, common_steps)
 
-module _ (f : Meaning) (o : ListSort) where
+module _ (f : Meaning) (o : TermTable) where
   -- each child may be an item of a list of the sort
   abbrev pub AreItems : List Child → Type 0
   AreItems list = All (λ c. IsItem o (child_sort c)) list
@@ -114,8 +100,7 @@ module _ (f : Meaning) (o : ListSort) where
   unfolding fill_all
   count-item child.Absent us there = absurd (there refl)
   count-item (child.Region r) us there = refl
-  count-item (child.Node n) us there = refl
-  count-item (child.List l) us there = refl
+  count-item (child.Stored n) us there = refl
 
   -- each item is one tree
   pub count-items : (list : List Child) → AreItems list → count_trees (fill_all f (children_shapes list)) ≡ length list
@@ -129,8 +114,7 @@ module _ (f : Meaning) (o : ListSort) where
   unfolding fill_all
   none-item child.Absent us there = absurd (there refl)
   none-item (child.Region r) us there = refl
-  none-item (child.Node n) us there = refl
-  none-item (child.List l) us there = refl
+  none-item (child.Stored n) us there = refl
 
   -- the items after the first m of k
   items-end : (rest : List Child) (m k : ℕ) → m + length rest ≡ k → AreItems rest → are_none (fill_all f (children_shapes rest)) ≡ (m == k)
@@ -139,7 +123,7 @@ module _ (f : Meaning) (o : ListSort) where
   items-end (c ∷ rest) m k count h =
       none-item c (children_shapes rest) (item-there o c (All-head (λ c. IsItem o (child_sort c)) c rest h)) ∙ (let low : m < k = omega arith in grind (arith, nat_tests))
 
-module _ (item_name : ℕ → Name) (f : Meaning) (s : Style) (o : ListSort) (list : List Child) (n : ℕ) where
+module _ (item_name : ℕ → Name) (f : Meaning) (s : Style) (o : TermTable) (list : List Child) (n : ℕ) where
   -- an item, and then the items after it
   pub item-then : (x : Child) → slice_get list n ≡ Some x → AreItems f o list
       → child_text item_name (before_child item_name s n (n + 1 == length list)) s (fill_all f (child_shapes x))
@@ -166,8 +150,7 @@ module _ (item_name : ℕ → Name) (f : Meaning) where
   unfolding fill_all
   alone-text child.Absent = refl
   alone-text (child.Region r) = append-nil (text_in item_name style.Joined (fill f (region_shape r)) ++ []) ∙ append-nil (text_in item_name style.Joined (fill f (region_shape r)))
-  alone-text (child.Node n) = append-nil (text_in item_name style.Joined (fill f (node_shape n)) ++ []) ∙ append-nil (text_in item_name style.Joined (fill f (node_shape n)))
-  alone-text (child.List l) = append-nil (text_in item_name style.Joined (fill f (list_shape l)) ++ []) ∙ append-nil (text_in item_name style.Joined (fill f (list_shape l)))
+  alone-text (child.Stored n) = append-nil (text_in item_name style.Joined (fill f (handle_shape n)) ++ []) ∙ append-nil (text_in item_name style.Joined (fill f (handle_shape n)))
 
   -- what is spelled by no word around one child is the child's text
   pub child-spelled : (s : Spelling) (c : Child) → head_of s ≡ word [] → s.style ≡ style.Joined

@@ -1,11 +1,11 @@
 -- Pieces of a text: what is added, and what is left.
 use Rattle.std.proofs.Common.{◌≡◌, ℕ, suc, ◌+◌, ◌<◌, ◌≤◌, ◌==◌, Bool, true, false, List, [], ◌∷◌, ◌++◌, Ok, Err, Result}
 use Rattle.std.proofs.Common.{OnOk, length, drop, refl, ap, sym, ◌∙◌, append_assoc, arith}
-use Rattle.std.specs.Prelude.{Some, None, Option, IsSome, slice_get}
+use Rattle.std.specs.Prelude.{Some, None, Option, IsSome, cond, slice_get}
 use Rattle.std.proofs.lemmas.Grind.{common_steps}
 use Rattle.std.proofs.lemmas.List.{append-nil}
-use Rattle.tt_kinds.specs.Label.{Name, Sort, Label}
-use Rattle.tt_kinds.specs.Tree.{Depth, Tree, Forest, count_trees}
+use Rattle.tt_kinds.specs.Label.{Name, Sort, Label, clause_list_label, list_label}
+use Rattle.tt_kinds.specs.Tree.{Depth, Tree, Forest, count_trees, node, term}
 use Rattle.tt_kinds.specs.Shape.{Shapes, Meaning, AreParts, fill, fill_all, append}
 use Rattle.tt_kinds.specs.Kinds.{items_label, Form, param, bound, plain, under, form_parts, form_shape, kind_form}
 use Rattle.tt_kinds.specs.Kinds.{kind_sort, kind_shape, child_shapes, children_shapes, parts_shapes, items_tree}
@@ -13,8 +13,8 @@ use Rattle.tt_kinds.specs.declared.parts.Child.{Child}
 use Rattle.tt_kinds.specs.declared.parts.Child.TheVariants as child
 use Rattle.tt_kinds.specs.declared.parts.Parts.{Parts}
 use Rattle.tt_kinds.specs.declared.parts.Kind.{Kind}
-use Rattle.tt_kinds.specs.declared.parts.ListSort.{ListSort}
-use Rattle.tt_kinds.specs.declared.parts.ListSort.TheVariants as sort
+use Rattle.tt_kinds.specs.TermTable.{is_clause_table, term_table}
+use Rattle.tt_kinds.specs.declared.table.TermTable.{TermTable}
 use Rattle.tt_interner.specs.Rows.{Row, size, meaning}
 use Rattle.tt_print.specs.declared.ir_print.layout.Style.{Style}
 use Rattle.tt_print.specs.declared.ir_print.layout.Place.TheVariants as place
@@ -88,11 +88,8 @@ module _ (rows : List Row) where
   adds-child old room new s (child.Region r) count last there same is h =
       let piece : Piece = record { style = s; place = place.Before count last; child = child.Region r } in
       adds-as old new _ _ _ _ refl (omega arith) (pushed old new piece (is ∙ ap (λ ps. ps ++ piece ∷ []) same) h)
-  adds-child old room new s (child.Node n) count last there same is h =
-      let piece : Piece = record { style = s; place = place.Before count last; child = child.Node n } in
-      adds-as old new _ _ _ _ refl (omega arith) (pushed old new piece (is ∙ ap (λ ps. ps ++ piece ∷ []) same) h)
-  adds-child old room new s (child.List l) count last there same is h =
-      let piece : Piece = record { style = s; place = place.Before count last; child = child.List l } in
+  adds-child old room new s (child.Stored n) count last there same is h =
+      let piece : Piece = record { style = s; place = place.Before count last; child = child.Stored n } in
       adds-as old new _ _ _ _ refl (omega arith) (pushed old new piece (is ∙ ap (λ ps. ps ++ piece ∷ []) same) h)
 
   -- an absent child has no text
@@ -101,8 +98,7 @@ module _ (rows : List Row) where
   unfolding fill_all
   adds-absent old s child.Absent first none = adds-nothing old
   adds-absent old s (child.Region r) first none = let never = none in cc
-  adds-absent old s (child.Node n) first none = let never = none in cc
-  adds-absent old s (child.List l) first none = let never = none in cc
+  adds-absent old s (child.Stored n) first none = let never = none in cc
 
   -- a text was begun by adding pieces alone
   pub opens-added : {T E : Type 0} (r : Result T E) (a : List ℕ) (old new : List Piece) (whole : List ℕ) (work : ℕ) → OnOk r (AddsPieces rows old new whole work) → OpensText rows r a a old new whole work
@@ -195,8 +191,7 @@ module _ (f : Meaning) where
   unfolding fill_all
   work-append child.Absent us = omega arith
   work-append (child.Region r) us = omega arith
-  work-append (child.Node n) us = omega arith
-  work-append (child.List l) us = omega arith
+  work-append (child.Stored n) us = omega arith
 
   work-form : (s : Sort) (x : Form (Label ℕ)) → suc (forest_pieces (fill_all f (parts_shapes (form_parts x)))) ≤ inner_work (fill f (form_shape s x))
   unfolding fill fill_all
@@ -210,13 +205,12 @@ module _ (f : Meaning) where
   work-kind k = work-form (kind_sort k) (kind_form k)
 
 -- the work of a list's items, and of the text after them
-pub work-list : (o : ListSort) (ts : Forest Depth) → suc (forest_pieces ts) ≡ inner_work (items_tree o ts)
-work-list sort.Tys ts = refl
-work-list sort.Consts ts = refl
-work-list sort.Args ts = refl
-work-list sort.Pats ts = refl
-work-list sort.Existentials ts = refl
-work-list sort.Clauses ts = refl
+pub work-list : (o : TermTable) (ts : Forest Depth) → suc (forest_pieces ts) ≡ inner_work (items_tree o ts)
+work-list o ts = by (is_clause_table o)
+  where
+    by : (b : Bool) → suc (forest_pieces ts) ≡ inner_work (cond b (term clause_list_label ts) (node (list_label (term_table o)) ts))
+    by true = refl
+    by false = refl
 
 module _ (rows : List Row) (s : Style) where
   -- both parts were added, after the text after them
@@ -246,7 +240,7 @@ module _ (rows : List Row) (s : Style) where
       rw ended h
 
   -- an item was added in front of the later ones
-  pub adds-item : (o : ListSort) (list : List Child) (n i count : ℕ) (x : Child) (a b c : List Piece) → i ≡ n + 1 → slice_get list n ≡ Some x → AreItems (meaning rows) o list
+  pub adds-item : (o : TermTable) (list : List Child) (n i count : ℕ) (x : Child) (a b c : List Piece) → i ≡ n + 1 → slice_get list n ≡ Some x → AreItems (meaning rows) o list
       → count ≡ length list
       → AddsPieces rows a b (texts (names rows) s i (fill_all (meaning rows) (children_shapes (drop i list))) ++ closing (names rows) s count) (suc (forest_pieces (fill_all (meaning rows) (children_shapes (drop i list)))))
       → AddsPieces rows b c (child_text (names rows) (before_child (names rows) s n (n + 1 == count)) s (fill_all (meaning rows) (child_shapes x))) (forest_pieces (fill_all (meaning rows) (child_shapes x)))
@@ -264,7 +258,7 @@ module _ (rows : List Row) (s : Style) where
       (omega arith) (adds-then rows a b c _ _ _ _ before now)
 
 -- all items of a list were added
-pub adds-list : (rows : List Row) (s x : Style) (o : ListSort) (list : List Child) (t : Tree Depth) (n count : ℕ) (old new : List Piece) → n ≤ 0
+pub adds-list : (rows : List Row) (s x : Style) (o : TermTable) (list : List Child) (t : Tree Depth) (n count : ℕ) (old new : List Piece) → n ≤ 0
     → x ≡ style_in {N = Name} s (items_label o) → t ≡ items_tree o (fill_all (meaning rows) (children_shapes list)) → count ≡ length list → AreItems (meaning rows) o list
     → AddsPieces rows old new (texts (names rows) x n (fill_all (meaning rows) (children_shapes (drop n list))) ++ closing (names rows) x count) (suc (forest_pieces (fill_all (meaning rows) (children_shapes (drop n list)))))
     → AddsPieces rows old new (text_in (names rows) s t) (inner_work t)

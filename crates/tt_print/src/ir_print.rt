@@ -14,7 +14,7 @@ ghost use Rattle.std.specs.Prelude.{
   OnOk,
   Some,
 };
-ghost use Rattle.tt_kinds.specs.Kinds.{child_shapes, kind_shape, node_shape, parts_shapes, region_shape};
+ghost use Rattle.tt_kinds.specs.Kinds.{child_shapes, kind_shape, handle_shape, parts_shapes, region_shape};
 ghost use Rattle.tt_kinds.specs.Bound.{var_kind};
 ghost use Rattle.tt_kinds.specs.Shape.{AreParts, HasParts, IsNamedKind, fill, fill_all, name_of, rename_kind, vars_of};
 ghost use Rattle.tt_kinds.specs.declared.table.Table.TheVariants.{Symbols, VarLists};
@@ -73,12 +73,15 @@ use spelling::{
 };
 use std::alloc::AllocError;
 use tt_interner::{InternedList, InternedText, Interner};
-use tt_kinds::{
-    BoundVarKinds, BoundVariableKind, Child, Clause, Const, DeclarationKind, DefId, GenericArg,
-    GenericArgKind, Kind, List, Node, Parts, Pat, PolyExistentialPredicate, Predicate, Region,
-    Symbol, Term, TermKind, Ty,
+use tt_kinds::handle::{
+    ArgListRow, ClauseListRow, ConstListRow, ConstRow, ExistentialListRow, ExistentialRow,
+    PatternListRow, PatternRow, PredicateRow, TypeListRow, TypeRow,
 };
-use tt_visit::TypeVisitable;
+use tt_kinds::{
+    AnyHandle, BoundVarKinds, BoundVariableKind, Child, Clause, DeclarationKind, DefId, GenericArg,
+    GenericArgKind, Handle, Kind, Parts, Predicate, Region, Symbol, Term, TermKind,
+};
+use tt_visit::{IsWalked, TypeVisitable};
 use words::bound_words;
 
 // Appends the text.
@@ -310,15 +313,15 @@ fn write_region(cx: &Interner, out: &mut String, region: Region) -> Result<(), A
     write_head(cx, out, &spelling)
 }
 
-// Begins a stored term, in a term of this style: appends its head, and adds the pieces after it.
-fn write_node(
+// Begins a stored term or list, in a term of this style: appends its head, and adds the pieces after it.
+fn write_row(
     cx: &Interner,
     out: &mut String,
     pieces: &mut Pieces,
     style: Style,
-    node: Node,
+    handle: AnyHandle,
 ) -> Result<(), AllocError>
-    requires { IsPartBy node_shape cx.now.rows node }
+    requires { IsPartBy handle_shape cx.now.rows handle }
     ensures { OpensText
         cx.now.rows
         result
@@ -326,15 +329,14 @@ fn write_node(
         (string_bytes out.new)
         pieces.old.items
         pieces.new.items
-        (text_in (names cx.now.rows) style (tree_by node_shape cx.now.rows node))
-        (inner_work (tree_by node_shape cx.now.rows node)) }
+        (text_in (names cx.now.rows) style (tree_by handle_shape cx.now.rows handle))
+        (inner_work (tree_by handle_shape cx.now.rows handle)) }
 {
-    match node {
-        Node::Clauses(clauses) => push_list(cx, pieces, style, List::Clauses(clauses)),
-        _ => {
-            let kind = cx.node_kind(node);
-            write_kind(cx, out, pieces, &kind)
-        }
+    if handle.table.has_items() {
+        push_list(cx, pieces, style, handle)
+    } else {
+        let kind = cx.node_kind(handle);
+        write_kind(cx, out, pieces, &kind)
     }
 }
 
@@ -419,8 +421,7 @@ fn write_piece(
     match piece.child {
         Child::Absent => Ok(()),
         Child::Region(region) => write_region(cx, out, region),
-        Child::Node(node) => write_node(cx, out, pieces, piece.style, node),
-        Child::List(list) => push_list(cx, pieces, piece.style, list),
+        Child::Stored(handle) => write_row(cx, out, pieces, piece.style, handle),
     }
 }
 
@@ -576,31 +577,35 @@ pub trait IrPrint: TypeVisitable {
     }
 }
 
-impl IrPrint for Ty {
-    #[tactic(auto, unfolding(tt_kinds::specs::Shape::fill, tt_kinds::specs::Shape::fill_all))]
-    fn print(&self, cx: &Interner, out: &mut String) -> Result<(), AllocError> {
-        print_child(cx, out, &Child::Node(Node::Ty(*self)))
-    }
-}
+/// A mark of the handles that are printed as their terms and lists are.
+pub trait IsPrinted: IsWalked {}
 
-impl IrPrint for Const {
-    #[tactic(auto, unfolding(tt_kinds::specs::Shape::fill, tt_kinds::specs::Shape::fill_all))]
-    fn print(&self, cx: &Interner, out: &mut String) -> Result<(), AllocError> {
-        print_child(cx, out, &Child::Node(Node::Const(*self)))
-    }
-}
+impl IsPrinted for TypeRow {}
 
-impl IrPrint for Pat {
-    #[tactic(auto, unfolding(tt_kinds::specs::Shape::fill, tt_kinds::specs::Shape::fill_all))]
-    fn print(&self, cx: &Interner, out: &mut String) -> Result<(), AllocError> {
-        print_child(cx, out, &Child::Node(Node::Pat(*self)))
-    }
-}
+impl IsPrinted for ConstRow {}
 
-impl IrPrint for Predicate {
+impl IsPrinted for PatternRow {}
+
+impl IsPrinted for PredicateRow {}
+
+impl IsPrinted for ExistentialRow {}
+
+impl IsPrinted for ClauseListRow {}
+
+impl IsPrinted for TypeListRow {}
+
+impl IsPrinted for ConstListRow {}
+
+impl IsPrinted for ArgListRow {}
+
+impl IsPrinted for PatternListRow {}
+
+impl IsPrinted for ExistentialListRow {}
+
+impl<K: IsPrinted> IrPrint for Handle<K> {
     #[tactic(auto, unfolding(tt_kinds::specs::Shape::fill, tt_kinds::specs::Shape::fill_all))]
     fn print(&self, cx: &Interner, out: &mut String) -> Result<(), AllocError> {
-        print_child(cx, out, &Child::Node(Node::Predicate(*self)))
+        print_child(cx, out, &self.child())
     }
 }
 
@@ -608,13 +613,6 @@ impl IrPrint for Clause {
     #[tactic(auto, unfolding(tt_kinds::specs::Shape::fill, tt_kinds::specs::Shape::fill_all))]
     fn print(&self, cx: &Interner, out: &mut String) -> Result<(), AllocError> {
         Predicate::from_number(self.number()).print(cx, out)
-    }
-}
-
-impl IrPrint for PolyExistentialPredicate {
-    #[tactic(auto, unfolding(tt_kinds::specs::Shape::fill, tt_kinds::specs::Shape::fill_all))]
-    fn print(&self, cx: &Interner, out: &mut String) -> Result<(), AllocError> {
-        print_child(cx, out, &Child::Node(Node::Existential(*self)))
     }
 }
 

@@ -2,19 +2,20 @@
 use Rattle.std.proofs.Common.{◌≡◌, ℕ, suc, ◌+◌, ◌<◌, ◌≤◌, List, [], ◌∷◌, Option, Some, None, ControlFlow, Continue}
 use Rattle.std.proofs.Common.{Break, refl, ap, arith, All, MatchOption}
 use Rattle.std.specs.ControlFlow.{MatchControlFlow}
-use Rattle.tt_kinds.specs.Label.{Sort, Label}
-use Rattle.tt_kinds.specs.Tree.{Depth, Forest}
+use Rattle.std.specs.Prelude.{Bool, true, false, cond}
+use Rattle.tt_kinds.specs.Label.{Sort, Label, clause_list_label, list_label}
+use Rattle.tt_kinds.specs.Tree.{Depth, Forest, term, node}
 use Rattle.tt_kinds.specs.Shape.{Shapes, none, also, append, Meaning, AreParts, fill, fill_all, vars_of}
 use Rattle.tt_kinds.specs.Kinds.{Form, param, bound, plain, under, form_parts, form_shape, kind_form, kind_sort}
 use Rattle.tt_kinds.specs.Kinds.{kind_shape, child_shapes, children_shapes, parts_shapes, items_tree}
-use Rattle.tt_kinds.specs.Parts.{child_sort, absent, IsItem, list_sort, list_table, list_number}
+use Rattle.tt_kinds.specs.Parts.{child_sort, IsItem}
 use Rattle.tt_kinds.specs.Handle.{BoundVarKinds}
 use Rattle.tt_kinds.specs.declared.parts.Child.{Child}
 use Rattle.tt_kinds.specs.declared.parts.Child.TheVariants as child
 use Rattle.tt_kinds.specs.declared.parts.Kind.{Kind}
-use Rattle.tt_kinds.specs.declared.parts.List.{List as StoredList}
-use Rattle.tt_kinds.specs.declared.parts.ListSort.{ListSort}
-use Rattle.tt_kinds.specs.declared.parts.ListSort.TheVariants as sort
+use Rattle.tt_kinds.specs.declared.handle.AnyHandle.{AnyHandle}
+use Rattle.tt_kinds.specs.declared.table.TermTable.{TermTable}
+use Rattle.tt_kinds.specs.TermTable.{is_clause_table, term_table}
 use Rattle.tt_kinds.specs.declared.parts.Parts.{Parts}
 use Rattle.tt_kinds.specs.declared.table.Table.TheVariants.{VarLists}
 use Rattle.tt_interner.specs.Children.{children_at}
@@ -65,28 +66,24 @@ finished V rows P Q h w s1 s2 (Continue (Some f)) r k e = flow-weaker r e (λ _ 
 shapes-present : (c : Child) → children_shapes (present c) ≡ child_shapes c
 shapes-present child.Absent = refl
 shapes-present (child.Region r) = refl
-shapes-present (child.Node n) = refl
-shapes-present (child.List l) = refl
+shapes-present (child.Stored r) = refl
 
 present-height : (rows : List Row) (c : Child) → children_height rows (present c) ≤ child_height rows c
 present-height rows child.Absent = omega arith
 present-height rows (child.Region r) = omega arith
-present-height rows (child.Node n) = omega arith
-present-height rows (child.List l) = omega arith
+present-height rows (child.Stored r) = omega arith
 
 present-work : (rows : List Row) (c : Child) → children_work rows (present c) ≤ forest_work (fill_all (meaning rows) (child_shapes c))
 unfolding fill_all
 present-work rows child.Absent = omega arith
 present-work rows (child.Region r) = omega arith
-present-work rows (child.Node n) = omega arith
-present-work rows (child.List l) = omega arith
+present-work rows (child.Stored r) = omega arith
 
 child-work : (rows : List Row) (c : Child) → child_work rows c ≤ forest_work (fill_all (meaning rows) (child_shapes c)) + 1
 unfolding fill_all
 child-work rows child.Absent = omega arith
 child-work rows (child.Region r) = omega arith
-child-work rows (child.Node n) = omega arith
-child-work rows (child.List l) = omega arith
+child-work rows (child.Stored r) = omega arith
 
 work-append : (f : Meaning) (ss us : Shapes) → forest_work (fill_all f (append ss us)) ≡ forest_work (fill_all f ss) + forest_work (fill_all f us)
 unfolding fill_all
@@ -158,22 +155,13 @@ pub kind-work : (f : Meaning) (k : Kind) → forest_work (fill_all f (parts_shap
 kind-work f k = form-work f (kind_sort k) (kind_form k)
 
 -- the items of a list are less work than the list
-not-absent : (s : ListSort) → IsItem s absent → ⊥
-not-absent sort.Tys h = h
-not-absent sort.Consts h = h
-not-absent sort.Args h = h
-not-absent sort.Pats h = h
-not-absent sort.Existentials h = h
-not-absent sort.Clauses h = h
-
-item-work : (rows : List Row) (s : ListSort) (c : Child) → IsItem s (child_sort c) → child_work rows c ≤ forest_work (fill_all (meaning rows) (child_shapes c))
+item-work : (rows : List Row) (s : TermTable) (c : Child) → IsItem s (child_sort c) → child_work rows c ≤ forest_work (fill_all (meaning rows) (child_shapes c))
 unfolding fill_all
-item-work rows s child.Absent h = absurd (not-absent s h)
+item-work rows s child.Absent h = absurd h
 item-work rows s (child.Region r) h = omega arith
-item-work rows s (child.Node n) h = omega arith
-item-work rows s (child.List l) h = omega arith
+item-work rows s (child.Stored r) h = omega arith
 
-items-work : (rows : List Row) (s : ListSort) (cs : List Child) → All (λ c. IsItem s (child_sort c)) cs
+items-work : (rows : List Row) (s : TermTable) (cs : List Child) → All (λ c. IsItem s (child_sort c)) cs
     → children_work rows cs ≤ forest_work (fill_all (meaning rows) (children_shapes cs))
 items-work rows s [] h = omega arith
 items-work rows s (c ∷ cs) h =
@@ -181,21 +169,20 @@ items-work rows s (c ∷ cs) h =
     let more = items-work rows s cs (λ k d lt. h (suc k) d (omega (arith, lt))) in
     omega (arith, first, more, work-append (meaning rows) (child_shapes c) (children_shapes cs))
 
-items-tree-work : (s : ListSort) (ts : Forest Depth) → tree_work (items_tree s ts) ≡ suc (suc (forest_work ts))
-items-tree-work sort.Tys ts = refl
-items-tree-work sort.Consts ts = refl
-items-tree-work sort.Args ts = refl
-items-tree-work sort.Pats ts = refl
-items-tree-work sort.Existentials ts = refl
-items-tree-work sort.Clauses ts = refl
+items-tree-work : (s : TermTable) (ts : Forest Depth) → tree_work (items_tree s ts) ≡ suc (suc (forest_work ts))
+items-tree-work s ts = by (is_clause_table s)
+  where
+    by : (b : Bool) → tree_work (cond b (term clause_list_label ts) (node (list_label (term_table s)) ts)) ≡ suc (suc (forest_work ts))
+    by true = refl
+    by false = refl
 
 -- there is less to visit in the items of a stored list than in the list as a child
-pub list-light : (rows : List Row) (l : StoredList) → All (λ c. IsItem (list_sort l) (child_sort c)) (children_at rows l)
-    → meaning rows (list_table l) (list_number l) ≡ items_tree (list_sort l) (fill_all (meaning rows) (children_shapes (children_at rows l)))
-    → children_work rows (children_at rows l) + 1 < child_work rows (child.List l)
+pub list-light : (rows : List Row) (l : AnyHandle) → All (λ c. IsItem l.table (child_sort c)) (children_at rows l)
+    → meaning rows (term_table l.table) l.number ≡ items_tree l.table (fill_all (meaning rows) (children_shapes (children_at rows l)))
+    → children_work rows (children_at rows l) + 1 < child_work rows (child.Stored l)
 unfolding fill
 list-light rows l fit means =
-    omega (arith, items-work rows (list_sort l) (children_at rows l) fit, ap tree_work means, items-tree-work (list_sort l) (fill_all (meaning rows) (children_shapes (children_at rows l))))
+    omega (arith, items-work rows l.table (children_at rows l) fit, ap tree_work means, items-tree-work l.table (fill_all (meaning rows) (children_shapes (children_at rows l))))
 
 -- the items of a list
 pub begins-list : {M B : Type 0} {V : Visits M B} {rows : List Row} {P : M → Type 0} {Q : B → M → Type 0} {h w : ℕ} {f : Frame} {s : M}

@@ -39,8 +39,7 @@ rests_work rows (r ∷ rs) = suc (children_work rows (rest_children rows r)) + r
 some-work : (rows : List Row) (c : Child) → 0 < child_work rows c
 some-work rows child.Absent = omega arith
 some-work rows (child.Region r) = omega arith
-some-work rows (child.Node n) = omega arith
-some-work rows (child.List l) = omega arith
+some-work rows (child.Stored r) = omega arith
 
 -- a child was taken from what is left
 pub record Taken (rows : List Row) (f : Frame) (c : Child) (f' : Frame) : Type 0 where

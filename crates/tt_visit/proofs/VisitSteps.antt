@@ -1,7 +1,7 @@
 -- One step of a visit over plain variables.
 use Rattle.std.proofs.Common.{◌≡◌, ℕ, ◌+◌, ◌<◌, List, [], ◌∷◌, ◌++◌, length, take, drop, get_or, ControlFlow, Continue}
 use Rattle.std.proofs.Common.{Break, refl, ap, sym, ◌∙◌, ◌⊎◌, inl, inr, arith}
-use Rattle.std.specs.Prelude.{Some, None, slice_get}
+use Rattle.std.specs.Prelude.{IsFalse, IsTrue, Some, None, slice_get}
 use Rattle.std.specs.ControlFlow.{MatchControlFlow}
 use Rattle.std.proofs.lemmas.Grind.{common_steps}
 use Rattle.std.proofs.lemmas.Option.{slice_get_within, get_or_from_slice_get}
@@ -23,13 +23,9 @@ use Rattle.tt_interner.specs.Rows.{tys_row, consts_row, args_row, pats_row, exis
 use Rattle.tt_interner.specs.Rows.{text_row, declared_row, defined_row, row_table, row_shape, table, size, meaning}
 use Rattle.tt_interner.proofs.RowLaws.{place_cases, IsNewest, meaning-old, meaning-new}
 use Rattle.tt_kinds.specs.declared.parts.Child.{Child}
-use Rattle.tt_kinds.specs.declared.parts.Node.{Node}
-use Rattle.tt_kinds.specs.declared.parts.Node.TheVariants as node
-use Rattle.tt_kinds.specs.declared.parts.List.{List as StoredList}
-use Rattle.tt_kinds.specs.declared.parts.List.TheVariants as list
-use Rattle.tt_kinds.specs.Handle.{Clauses}
-use Rattle.tt_kinds.specs.declared.table.Table.TheVariants.{ClauseLists}
-use Rattle.tt_kinds.specs.Parts.{node_table, list_sort}
+use Rattle.tt_kinds.specs.declared.table.TermTable.{TermTable}
+use Rattle.tt_kinds.specs.declared.table.TermTable.TheVariants.{Types, Consts, Patterns, Predicates, Existentials, ClauseLists}
+use Rattle.tt_kinds.specs.TermTable.{has_items, is_term}
 use Rattle.tt_kinds.specs.declared.region_kind.RegionKind.{RegionKind}
 use Rattle.tt_kinds.specs.declared.region_kind.RegionKind.TheVariants.{ReEarlyParam, ReBound, ReLateParam, ReStatic}
 use Rattle.tt_kinds.specs.declared.region_kind.RegionKind.TheVariants.{ReVar, RePlaceholder, ReErased, ReError}
@@ -308,35 +304,26 @@ parts-child size list n x h are =
     (parts-after size (children_shapes (take n list)) (append (child_shapes x) (children_shapes (drop (n + 1) list))) (rw (children-from list n x h) at are))
 
 -- a stored term that is no list of clauses has a kind
-pub has-kind : (n : Node) → ((x : Clauses) → n ≡ node.Clauses x → ⊥) → node_table n ≡ ClauseLists → ⊥
-has-kind (node.Ty t) never is = let wrong = is in cc
-has-kind (node.Const c) never is = let wrong = is in cc
-has-kind (node.Pat p) never is = let wrong = is in cc
-has-kind (node.Predicate p) never is = let wrong = is in cc
-has-kind (node.Existential e) never is = let wrong = is in cc
-has-kind (node.Clauses x) never is = never x refl
+pub has-kind : (t : TermTable) → IsTrue (is_term t) → (t ≡ ClauseLists → ⊥) → IsFalse (has_items t)
+has-kind ClauseLists h never = absurd (never refl)
+has-kind Types h never = refl
+has-kind Consts h never = refl
+has-kind Patterns h never = refl
+has-kind Predicates h never = refl
+has-kind Existentials h never = refl
+has-kind _ h never = cc
 
 -- a list that is none of clauses has no hook
 module _ {M B : Type 0} (V : Visits M B) where
   -- a visitor that goes over the items of a list goes over the list, unless it is one of clauses
-  pub list-seen : (l : StoredList) (ts : Forest Depth) (s s' : M) → ((x : Clauses) → l ≡ list.Clauses x → ⊥)
-      → GoesOverAll V s ts s' → GoesOver V s (items_tree (list_sort l) ts) s'
-  list-seen (list.Tys x) ts s s' never h = node_seen refl h
-  list-seen (list.Consts x) ts s s' never h = node_seen refl h
-  list-seen (list.Args x) ts s s' never h = node_seen refl h
-  list-seen (list.Pats x) ts s s' never h = node_seen refl h
-  list-seen (list.Existentials x) ts s s' never h = node_seen refl h
-  list-seen (list.Clauses x) ts s s' never h = absurd (never x refl)
+  pub list-seen : (t : TermTable) → IsFalse (is_term t) → (ts : Forest Depth) (s s' : M) → GoesOverAll V s ts s' → GoesOver V s (items_tree t ts) s'
+  list-seen ClauseLists is ts s s' h = cc
+  list-seen _ is ts s s' h = node_seen refl h
 
   -- if the visit of a list's items breaks, so does the visit of the list, unless it is one of clauses
-  pub list-broke : (l : StoredList) (ts : Forest Depth) (s s' : M) (b : B) → ((x : Clauses) → l ≡ list.Clauses x → ⊥)
-      → BreaksAll V s ts b s' → Breaks V s (items_tree (list_sort l) ts) b s'
-  list-broke (list.Tys x) ts s s' b never h = node_broke refl h
-  list-broke (list.Consts x) ts s s' b never h = node_broke refl h
-  list-broke (list.Args x) ts s s' b never h = node_broke refl h
-  list-broke (list.Pats x) ts s s' b never h = node_broke refl h
-  list-broke (list.Existentials x) ts s s' b never h = node_broke refl h
-  list-broke (list.Clauses x) ts s s' b never h = absurd (never x refl)
+  pub list-broke : (t : TermTable) → IsFalse (is_term t) → (ts : Forest Depth) (s s' : M) (b : B) → BreaksAll V s ts b s' → Breaks V s (items_tree t ts) b s'
+  list-broke ClauseLists is ts s s' b h = cc
+  list-broke _ is ts s s' b h = node_broke refl h
 
 -- a region is a region
 pub root-region : (f : Meaning) (r : RegionKind) → root (fill f (region_shape r)) ≡ a_region

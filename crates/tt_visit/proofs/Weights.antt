@@ -10,7 +10,7 @@ use Rattle.tt_kinds.specs.declared.parts.Parts.{Parts}
 use Rattle.tt_kinds.specs.declared.parts.Kind.{Kind}
 use Rattle.tt_interner.specs.Rows.{Row, IsOlder, AreOlder}
 use Rattle.tt_visit.specs.Frames.{children_height}
-pub use Rattle.tt_visit.specs.Frames.{node_age, list_age, child_height, parts_height}
+pub use Rattle.tt_visit.specs.Frames.{stored_age, child_height, parts_height}
 
 older-before : (rows : List Row) (a : ℕ) (ss us : Shapes) → AreOlder rows a (append ss us) → AreOlder rows a ss
 older-before rows a none us h = tt
@@ -24,8 +24,7 @@ older-after rows a (also x ss) us h = older-after rows a ss us h.1
 low-child : (rows : List Row) (a : ℕ) (c : Child) → AreOlder rows a (child_shapes c) → child_height rows c ≤ a
 low-child rows a child.Absent h = omega arith
 low-child rows a (child.Region r) h = omega arith
-low-child rows a (child.Node n) h = let older : node_age rows n < a = h.0 in omega arith
-low-child rows a (child.List l) h = let older : list_age rows l < a = h.0 in omega arith
+low-child rows a (child.Stored r) h = let older : stored_age rows r < a = h.0 in omega arith
 
 low-parts : (rows : List Row) (a : ℕ) (p : Parts) → AreOlder rows a (parts_shapes p) → parts_height rows p ≤ a
 low-parts rows a p h =

@@ -1,19 +1,18 @@
 -- The frames of a visit: what is left of terms and lists, and how much there is to visit.
 use Rattle.std.specs.Prelude.{◌≡◌, ℕ, suc, ◌+◌, ◌<◌, ◌≤◌, max, List, [], ◌∷◌, ◌++◌, length, drop, Option, Some, None}
-use Rattle.std.specs.Prelude.{◌⊎◌, ⊤}
+use Rattle.std.specs.Prelude.{◌⊎◌, ⊤, IsTrue}
 use Rattle.std.specs.Option.{option_to_list}
 use Rattle.std.specs.ControlFlow.{MatchControlFlow}
 use Rattle.std.specs.declared.ops.ControlFlow.{ControlFlow}
 use Rattle.std.specs.declared.ops.ControlFlow.TheVariants.{Continue, Break}
 use Rattle.tt_kinds.specs.Tree.{Depth, Tree, Forest, param, bound, region, term, node, binder, none, also}
 use Rattle.tt_kinds.specs.Shape.{Sizes, AreParts, IsPart, fill, fill_all, vars_of}
-use Rattle.tt_kinds.specs.Kinds.{children_shapes, list_shape, node_shape}
-use Rattle.tt_kinds.specs.Parts.{node_table, node_number, list_table, list_number}
+use Rattle.tt_kinds.specs.Kinds.{children_shapes, handle_shape}
+use Rattle.tt_kinds.specs.TermTable.{has_items, term_table}
 use Rattle.tt_kinds.specs.Handle.{BoundVarKinds}
 use Rattle.tt_kinds.specs.declared.parts.Child.{Child}
 use Rattle.tt_kinds.specs.declared.parts.Child.TheVariants as child
-use Rattle.tt_kinds.specs.declared.parts.List.{List as StoredList}
-use Rattle.tt_kinds.specs.declared.parts.Node.{Node}
+use Rattle.tt_kinds.specs.declared.handle.AnyHandle.{AnyHandle}
 use Rattle.tt_kinds.specs.declared.parts.Parts.{Parts}
 use Rattle.tt_kinds.specs.declared.table.Table.TheVariants.{VarLists}
 use Rattle.tt_interner.specs.Children.{children_at}
@@ -28,23 +27,20 @@ use Rattle.tt_visit.specs.declared.frame.Remaining.TheVariants as rest
 abbrev pub present : Child → List Child
 present child.Absent = []
 present (child.Region r) = child.Region r ∷ []
-present (child.Node n) = child.Node n ∷ []
-present (child.List l) = child.List l ∷ []
+present (child.Stored h) = child.Stored h ∷ []
 
 -- the children that are left after the first
 abbrev pub rest_children : List Row → Remaining → List Child
 rest_children rows (rest.Nothing vars) = []
 rest_children rows (rest.Region r vars) = child.Region r ∷ []
-rest_children rows (rest.Node n vars) = child.Node n ∷ []
-rest_children rows (rest.List l vars) = child.List l ∷ []
+rest_children rows (rest.Stored h vars) = child.Stored h ∷ []
 rest_children rows (rest.Items l index len) = drop index (children_at rows l)
 
 -- the binder that the visit leaves after the children
 abbrev pub rest_binder : Remaining → Option BoundVarKinds
 rest_binder (rest.Nothing vars) = vars
 rest_binder (rest.Region r vars) = vars
-rest_binder (rest.Node n vars) = vars
-rest_binder (rest.List l vars) = vars
+rest_binder (rest.Stored h vars) = vars
 rest_binder (rest.Items l index len) = None
 
 -- the children that are left
@@ -52,43 +48,36 @@ abbrev pub frame_children : List Row → Frame → List Child
 frame_children rows f = option_to_list f.first ++ rest_children rows f.rest
 
 -- the list is stored, and has this number of items
-abbrev pub HasItems : List Row → StoredList → ℕ → Type 0
-HasItems rows l len = IsPart (size rows) (list_shape l) × (len ≡ length (children_at rows l))
+abbrev pub HasItems : List Row → AnyHandle → ℕ → Type 0
+HasItems rows l len = IsPart (size rows) (handle_shape l) × IsTrue (has_items l.table) × (len ≡ length (children_at rows l))
 
 -- the index of an item that is left is one of the list's
 abbrev pub IsWithin : Remaining → Type 0
 IsWithin (rest.Nothing vars) = ⊤
 IsWithin (rest.Region r vars) = ⊤
-IsWithin (rest.Node n vars) = ⊤
-IsWithin (rest.List l vars) = ⊤
+IsWithin (rest.Stored h vars) = ⊤
 IsWithin (rest.Items l index len) = index < len
 
 -- if items of a list are left, the list is stored and has them
 abbrev pub IsRest : List Row → Remaining → Type 0
 IsRest rows (rest.Nothing vars) = ⊤
 IsRest rows (rest.Region r vars) = ⊤
-IsRest rows (rest.Node n vars) = ⊤
-IsRest rows (rest.List l vars) = ⊤
+IsRest rows (rest.Stored h vars) = ⊤
 IsRest rows (rest.Items l index len) = HasItems rows l len × (index < len)
 
 -- what is left was added to the others, or it is nothing
 abbrev pub IsKept : List Remaining → Remaining → List Remaining → Type 0
 IsKept before r after = (after ≡ before ++ r ∷ []) ⊎ ((r ≡ rest.Nothing None) × (after ≡ before))
 
--- how many rows came before a stored term
-abbrev pub node_age : List Row → Node → ℕ
-node_age rows n = age rows (node_table n) (node_number n)
-
--- how many rows came before a stored list
-abbrev pub list_age : List Row → StoredList → ℕ
-list_age rows l = age rows (list_table l) (list_number l)
+-- how many rows came before a stored term or list
+abbrev pub stored_age : List Row → AnyHandle → ℕ
+stored_age rows h = age rows (term_table h.table) h.number
 
 -- how many rows there have to be at least for a child
 abbrev pub child_height : List Row → Child → ℕ
 child_height rows child.Absent = 0
 child_height rows (child.Region r) = 0
-child_height rows (child.Node n) = suc (node_age rows n)
-child_height rows (child.List l) = suc (list_age rows l)
+child_height rows (child.Stored h) = suc (stored_age rows h)
 
 -- the same for parts
 abbrev pub parts_height : List Row → Parts → ℕ
@@ -118,8 +107,7 @@ abbrev mutual
 abbrev pub child_work : List Row → Child → ℕ
 child_work rows child.Absent = 1
 child_work rows (child.Region r) = 1
-child_work rows (child.Node n) = suc (suc (tree_work (fill (meaning rows) (node_shape n))))
-child_work rows (child.List l) = suc (suc (tree_work (fill (meaning rows) (list_shape l))))
+child_work rows (child.Stored h) = suc (suc (tree_work (fill (meaning rows) (handle_shape h))))
 
 -- the same for children
 abbrev pub children_work : List Row → List Child → ℕ

@@ -1,5 +1,4 @@
 pub mod Root
-pub mod Handles
 pub mod Visit
 pub mod Steps
 pub mod Frames

@@ -19,7 +19,7 @@ ghost use Rattle.tt_visit.specs.Frames.{
 
 use smallvec::SmallVec;
 use tt_interner::Interner;
-use tt_kinds::{BoundVarKinds, Child, List, Node, Parts, Region};
+use tt_kinds::{AnyHandle, BoundVarKinds, Child, Parts, Region};
 
 /// What is left of a term or a list after its first child: one more child, or items. After these, the visit leaves the
 /// binder that they are under.
@@ -29,12 +29,10 @@ pub(crate) enum Remaining {
     Nothing(Option<BoundVarKinds>),
     /// A region.
     Region(Region, Option<BoundVarKinds>),
-    /// A stored term.
-    Node(Node, Option<BoundVarKinds>),
-    /// A stored list.
-    List(List, Option<BoundVarKinds>),
+    /// A stored term or list.
+    Stored(AnyHandle, Option<BoundVarKinds>),
     /// The items of a list from an index on, and the list's length, which is greater.
-    Items(List, usize, usize),
+    Items(AnyHandle, usize, usize),
 }
 
 /// What is left of a term or a list.
@@ -67,13 +65,12 @@ impl Remaining {
         match child {
             Child::Absent => Remaining::Nothing(binder),
             Child::Region(region) => Remaining::Region(region, binder),
-            Child::Node(node) => Remaining::Node(node, binder),
-            Child::List(list) => Remaining::List(list, binder),
+            Child::Stored(handle) => Remaining::Stored(handle, binder),
         }
     }
 
     // Returns the items of a list of this length from an index on.
-    fn of_items(list: List, index: usize, len: usize) -> Remaining
+    fn of_items(list: AnyHandle, index: usize, len: usize) -> Remaining
         ensures rest { (rows : Items Row) → HasItems rows list len → IsRest rows result }
         ensures children { (rows : Items Row) → HasItems rows list len
             → rest_children rows result ≡ drop index (children_at rows list) }
@@ -93,8 +90,7 @@ impl Remaining {
         match self {
             Remaining::Nothing(binder)
             | Remaining::Region(_, binder)
-            | Remaining::Node(_, binder)
-            | Remaining::List(_, binder) => *binder,
+            | Remaining::Stored(_, binder) => *binder,
             Remaining::Items(_, _, _) => None,
         }
     }
@@ -109,8 +105,7 @@ impl Remaining {
         match self {
             Remaining::Nothing(_) => None,
             Remaining::Region(region, _) => Some(Child::Region(*region)),
-            Remaining::Node(node, _) => Some(Child::Node(*node)),
-            Remaining::List(list, _) => Some(Child::List(*list)),
+            Remaining::Stored(handle, _) => Some(Child::Stored(*handle)),
             Remaining::Items(list, index, _) => Some(cx.list_child(*list, *index)),
         }
     }
@@ -152,7 +147,7 @@ impl Frame {
     }
 
     /// Returns the items of a list of this length.
-    pub(crate) fn of_items(list: List, len: usize) -> Frame
+    pub(crate) fn of_items(list: AnyHandle, len: usize) -> Frame
         ensures rest { (rows : Items Row) → HasItems rows list len → IsRest rows result.rest }
         ensures children { (rows : Items Row) → HasItems rows list len
             → frame_children rows result ≡ children_at rows list }

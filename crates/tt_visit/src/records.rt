@@ -10,7 +10,7 @@ use tt_interner::Interner;
 use tt_kinds::{
     AliasTerm, AliasTy, Child, ClauseKind, CoercePredicate, CoroutineWitnessTypes,
     ExistentialPredicate, ExistentialProjection, ExistentialTraitRef, FnSig, FnSigTys,
-    HostEffectPredicate, Node, NormalizesTo, OutlivesPredicate, ParamEnv, Parts, PredicateKind,
+    HostEffectPredicate, NormalizesTo, OutlivesPredicate, ParamEnv, Parts, PredicateKind,
     ProjectionPredicate, SubtypePredicate, TraitPredicate, TraitRef, TypeAndMut, UnsafeBinderInner,
 };
 
@@ -346,7 +346,7 @@ impl TypeVisitable for UnsafeBinderInner {
         cx: &Interner,
         visitor: &mut V,
     ) -> ControlFlow<V::Break, ()> {
-        let parts = Parts::one(Child::Node(Node::Ty(self.skip_binder())));
+        let parts = Parts::one(self.skip_binder().child());
         visit_under(cx, visitor, self.bound_vars(), parts)
     }
 }

@@ -4,7 +4,7 @@
 //! loop visits a frame, with its stack on the heap, so that a deep term doesn't exhaust the machine's stack. A term's
 //! last child needs room on this stack only under a binder.
 
-ghost use Rattle.std.specs.Prelude.{None, Some, ◌<◌, ◌≡◌, ◌+◌};
+ghost use Rattle.std.specs.Prelude.{None, Some, ◌<◌, ◌≡◌, ◌+◌, IsTrue};
 ghost use Rattle.tt_kinds.specs.Shape.{AreParts, HasParts, fill_all};
 ghost use Rattle.tt_kinds.specs.Kinds.{
   child_shapes,
@@ -13,11 +13,10 @@ ghost use Rattle.tt_kinds.specs.Kinds.{
   items_tree,
   kind_form,
   kind_shape,
-  list_shape,
-  node_shape,
   parts_shapes,
+  handle_shape,
 };
-ghost use Rattle.tt_kinds.specs.Parts.{list_sort, node_table};
+ghost use Rattle.tt_kinds.specs.TermTable.{has_items, is_term, term_table};
 ghost use Rattle.tt_kinds.specs.declared.parts.Child.TheVariants as child;
 ghost use Rattle.tt_kinds.specs.declared.table.Table.TheVariants.{VarLists};
 ghost use Rattle.tt_interner.specs.Owned.{IsPartBy, tree_by};
@@ -72,23 +71,23 @@ use crate::visitor::{Next, TypeVisitor};
 use smallvec::SmallVec;
 use std::ops::ControlFlow;
 use tt_interner::Interner;
-use tt_kinds::{BoundVarKinds, Child, ConstKind, Kind, List, Node, Parts, TyKind};
+use tt_kinds::{AnyHandle, BoundVarKinds, Child, ConstKind, Kind, Parts, TermTable, TyKind};
 
-/// Visits a stored term. The term's hook, if it has one, is called first. Then its children are visited in order,
-/// unless the hook skips them or breaks. The term has to be of this interner; [`Interner::owns_node`] tests it.
-pub fn visit_node<V: TypeVisitor>(
+/// Visits a stored term or list. Its hook, if it has one, is called first. Then its children are visited in order,
+/// unless the hook skips them or breaks. The handle has to be of this interner; [`Interner::owns_any`] tests it.
+pub fn visit_stored<V: TypeVisitor>(
     cx: &Interner,
     visitor: &mut V,
-    node: Node,
+    handle: AnyHandle,
 ) -> ControlFlow<V::Break, ()>
     requires owned { V.owned cx.now.rows visitor.old }
-    requires node { IsPartBy node_shape cx.now.rows node }
+    requires handle { IsPartBy handle_shape cx.now.rows handle }
     ensures owned { V.owned cx.now.rows visitor.new }
     ensures broke { OwnsBreak V.break_owned cx.now.rows result }
     ensures result { Ends V.meaning (GoesOver V.hooks) (Breaks V.hooks)
-        cx.now.rows visitor.old (tree_by node_shape cx.now.rows node) result visitor.new }
+        cx.now.rows visitor.old (tree_by handle_shape cx.now.rows handle) result visitor.new }
 {
-    let begun = begin_node(cx, visitor, node);
+    let begun = begin_stored(cx, visitor, handle);
     finish(cx, visitor, begun)
 }
 
@@ -96,16 +95,17 @@ pub fn visit_node<V: TypeVisitor>(
 pub(crate) fn visit_inside<V: TypeVisitor>(
     cx: &Interner,
     visitor: &mut V,
-    node: Node,
+    handle: AnyHandle,
 ) -> ControlFlow<V::Break, ()>
     requires owned { V.owned cx.now.rows visitor.old }
-    requires node { IsPartBy node_shape cx.now.rows node }
+    requires handle { IsPartBy handle_shape cx.now.rows handle }
+    requires term { IsTrue (is_term handle.table) }
     ensures owned { V.owned cx.now.rows visitor.new }
     ensures broke { OwnsBreak V.break_owned cx.now.rows result }
     ensures result { Ends V.meaning (GoesInside V.hooks) (BreaksInside V.hooks)
-        cx.now.rows visitor.old (tree_by node_shape cx.now.rows node) result visitor.new }
+        cx.now.rows visitor.old (tree_by handle_shape cx.now.rows handle) result visitor.new }
 {
-    let begun = begin_inside(cx, visitor, node);
+    let begun = begin_inside(cx, visitor, handle);
     finish(cx, visitor, begun)
 }
 
@@ -162,24 +162,6 @@ pub(crate) fn visit_parts<V: TypeVisitor>(
         cx.now.rows visitor.old (fill_all (meaning cx.now.rows) (parts_shapes parts)) result visitor.new }
 {
     visit_frame(cx, visitor, Frame::of_parts(parts, None))
-}
-
-/// Visits the items of a stored list, in order. A list of clauses has a hook of its own, which is called first. The
-/// list has to be of this interner; [`Interner::owns_list`] tests it.
-pub fn visit_list<V: TypeVisitor>(
-    cx: &Interner,
-    visitor: &mut V,
-    list: List,
-) -> ControlFlow<V::Break, ()>
-    requires owned { V.owned cx.now.rows visitor.old }
-    requires list { IsPartBy list_shape cx.now.rows list }
-    ensures owned { V.owned cx.now.rows visitor.new }
-    ensures broke { OwnsBreak V.break_owned cx.now.rows result }
-    ensures result { Ends V.meaning (GoesOver V.hooks) (Breaks V.hooks)
-        cx.now.rows visitor.old (tree_by list_shape cx.now.rows list) result visitor.new }
-{
-    let begun = begin_list(cx, visitor, list);
-    finish(cx, visitor, begun)
 }
 
 // Finishes a visit that was begun.
@@ -305,29 +287,50 @@ fn begin_child<V: TypeVisitor>(
             ControlFlow::Break(b) => ControlFlow::Break(b),
             ControlFlow::Continue(_) => ControlFlow::Continue(None),
         },
-        Child::Node(node) => begin_node(cx, visitor, *node),
-        Child::List(list) => begin_list(cx, visitor, *list),
+        Child::Stored(handle) => begin_stored(cx, visitor, *handle),
+    }
+}
+
+// Begins the visit of a stored term or list.
+fn begin_stored<V: TypeVisitor>(
+    cx: &Interner,
+    visitor: &mut V,
+    handle: AnyHandle,
+) -> ControlFlow<V::Break, Option<Frame>>
+    requires owned { V.owned cx.now.rows visitor.old }
+    requires handle { IsPartBy handle_shape cx.now.rows handle }
+    ensures owned { V.owned cx.now.rows visitor.new }
+    ensures broke { OwnsBreak V.break_owned cx.now.rows result }
+    ensures begun { BeginsVisit V.meaning V.hooks (GoesOver V.hooks) (Breaks V.hooks)
+        (child_height cx.now.rows (child.Stored handle)) (child_work cx.now.rows (child.Stored handle))
+        cx.now.rows visitor.old (tree_by handle_shape cx.now.rows handle) result visitor.new }
+{
+    if handle.table.is_term() {
+        begin_term(cx, visitor, handle)
+    } else {
+        ControlFlow::Continue(Some(list_frame(cx, handle)))
     }
 }
 
 // Begins the visit of a stored term.
-fn begin_node<V: TypeVisitor>(
+fn begin_term<V: TypeVisitor>(
     cx: &Interner,
     visitor: &mut V,
-    node: Node,
+    handle: AnyHandle,
 ) -> ControlFlow<V::Break, Option<Frame>>
     requires owned { V.owned cx.now.rows visitor.old }
-    requires node { IsPartBy node_shape cx.now.rows node }
+    requires handle { IsPartBy handle_shape cx.now.rows handle }
+    requires term { IsTrue (is_term handle.table) }
     ensures owned { V.owned cx.now.rows visitor.new }
     ensures broke { OwnsBreak V.break_owned cx.now.rows result }
     ensures begun { BeginsVisit V.meaning V.hooks (GoesOver V.hooks) (Breaks V.hooks)
-        (child_height cx.now.rows (child.Node node)) (child_work cx.now.rows (child.Node node))
-        cx.now.rows visitor.old (tree_by node_shape cx.now.rows node) result visitor.new }
+        (child_height cx.now.rows (child.Stored handle)) (child_work cx.now.rows (child.Stored handle))
+        cx.now.rows visitor.old (tree_by handle_shape cx.now.rows handle) result visitor.new }
 {
-    match ask(cx, visitor, node) {
+    match ask(cx, visitor, handle) {
         ControlFlow::Break(b) => ControlFlow::Break(b),
         ControlFlow::Continue(Next::Skip) => ControlFlow::Continue(None),
-        ControlFlow::Continue(Next::Descend) => begin_inside(cx, visitor, node),
+        ControlFlow::Continue(Next::Descend) => begin_inside(cx, visitor, handle),
     }
 }
 
@@ -335,23 +338,21 @@ fn begin_node<V: TypeVisitor>(
 fn begin_inside<V: TypeVisitor>(
     cx: &Interner,
     visitor: &mut V,
-    node: Node,
+    handle: AnyHandle,
 ) -> ControlFlow<V::Break, Option<Frame>>
     requires owned { V.owned cx.now.rows visitor.old }
-    requires node { IsPartBy node_shape cx.now.rows node }
+    requires handle { IsPartBy handle_shape cx.now.rows handle }
+    requires term { IsTrue (is_term handle.table) }
     ensures owned { V.owned cx.now.rows visitor.new }
     ensures broke { OwnsBreak V.break_owned cx.now.rows result }
     ensures begun { BeginsVisit V.meaning V.hooks (GoesInside V.hooks) (BreaksInside V.hooks)
-        (child_height cx.now.rows (child.Node node)) (child_work cx.now.rows (child.Node node))
-        cx.now.rows visitor.old (tree_by node_shape cx.now.rows node) result visitor.new }
+        (child_height cx.now.rows (child.Stored handle)) (child_work cx.now.rows (child.Stored handle))
+        cx.now.rows visitor.old (tree_by handle_shape cx.now.rows handle) result visitor.new }
 {
-    match node {
-        Node::Clauses(clauses) => {
-            let items = list_frame(cx, List::Clauses(clauses));
-            ControlFlow::Continue(Some(items))
-        }
+    match handle.table {
+        TermTable::ClauseLists => ControlFlow::Continue(Some(list_frame(cx, handle))),
         _ => {
-            let kind = cx.node_kind(node);
+            let kind = cx.node_kind(handle);
             begin_kind(cx, visitor, &kind)
         }
     }
@@ -432,58 +433,44 @@ fn begin_under<V: TypeVisitor>(
     }
 }
 
-// Begins the visit of a stored list.
-fn begin_list<V: TypeVisitor>(
-    cx: &Interner,
-    visitor: &mut V,
-    list: List,
-) -> ControlFlow<V::Break, Option<Frame>>
-    requires owned { V.owned cx.now.rows visitor.old }
-    requires list { IsPartBy list_shape cx.now.rows list }
-    ensures owned { V.owned cx.now.rows visitor.new }
-    ensures broke { OwnsBreak V.break_owned cx.now.rows result }
-    ensures begun { BeginsVisit V.meaning V.hooks (GoesOver V.hooks) (Breaks V.hooks)
-        (child_height cx.now.rows (child.List list)) (child_work cx.now.rows (child.List list))
-        cx.now.rows visitor.old (tree_by list_shape cx.now.rows list) result visitor.new }
-{
-    match list {
-        List::Clauses(clauses) => begin_node(cx, visitor, Node::Clauses(clauses)),
-        _ => ControlFlow::Continue(Some(list_frame(cx, list))),
-    }
-}
-
 // Returns the frame of a stored list, before its items.
-fn list_frame(cx: &Interner, list: List) -> Frame
-    requires { IsPartBy list_shape cx.now.rows list }
+fn list_frame(cx: &Interner, list: AnyHandle) -> Frame
+    requires handle { IsPartBy handle_shape cx.now.rows list }
+    requires is_list { IsTrue (has_items list.table) }
     ensures frame { IsFrame cx.now.rows result }
     ensures binder { rest_binder result.rest ≡ None }
-    ensures list { tree_by list_shape cx.now.rows list
-        ≡ items_tree (list_sort list)
+    ensures list { tree_by handle_shape cx.now.rows list
+        ≡ items_tree list.table
         (fill_all (meaning cx.now.rows) (children_shapes (frame_children cx.now.rows result))) }
     ensures low { children_height cx.now.rows (frame_children cx.now.rows result)
-        < child_height cx.now.rows (child.List list) }
+        < child_height cx.now.rows (child.Stored list) }
     ensures light { children_work cx.now.rows (frame_children cx.now.rows result) + 1
-        < child_work cx.now.rows (child.List list) }
+        < child_work cx.now.rows (child.Stored list) }
 {
     Frame::of_items(list, cx.list_len(list))
 }
 
 // Calls the hook of a stored term. A term without a hook is entered.
-fn ask<V: TypeVisitor>(cx: &Interner, visitor: &mut V, node: Node) -> ControlFlow<V::Break, Next>
+fn ask<V: TypeVisitor>(
+    cx: &Interner,
+    visitor: &mut V,
+    handle: AnyHandle,
+) -> ControlFlow<V::Break, Next>
     requires owned { V.owned cx.now.rows visitor.old }
-    requires node { IsPartBy node_shape cx.now.rows node }
+    requires handle { IsPartBy handle_shape cx.now.rows handle }
+    requires term { IsTrue (is_term handle.table) }
     ensures owned { V.owned cx.now.rows visitor.new }
     ensures broke { OwnsBreak V.break_owned cx.now.rows result }
     ensures result { Answers V.meaning
-        (AsksVisitor V.hooks (table_root (node_table node))) (AskingBreaks V.hooks (table_root (node_table node)))
-        cx.now.rows visitor.old (tree_by node_shape cx.now.rows node) result visitor.new }
+        (AsksVisitor V.hooks (table_root (term_table handle.table))) (AskingBreaks V.hooks (table_root (term_table handle.table)))
+        cx.now.rows visitor.old (tree_by handle_shape cx.now.rows handle) result visitor.new }
 {
-    match node {
-        Node::Ty(ty) => visitor.visit_ty(cx, ty),
-        Node::Const(constant) => visitor.visit_const(cx, constant),
-        Node::Predicate(predicate) => visitor.visit_predicate(cx, predicate),
-        Node::Clauses(clauses) => visitor.visit_clauses(cx, clauses),
-        Node::Pat(_) | Node::Existential(_) => ControlFlow::Continue(Next::Descend),
+    match handle.table {
+        TermTable::Types => visitor.visit_ty(cx, handle.typed()),
+        TermTable::Consts => visitor.visit_const(cx, handle.typed()),
+        TermTable::Predicates => visitor.visit_predicate(cx, handle.typed()),
+        TermTable::ClauseLists => visitor.visit_clauses(cx, handle.typed()),
+        _ => ControlFlow::Continue(Next::Descend),
     }
 }
 

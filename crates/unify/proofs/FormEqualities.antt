@@ -11,26 +11,25 @@ use Rattle.tt_kinds.specs.Tree.{Depth, Tree, Forest}
 use Rattle.tt_kinds.specs.Shape as shape
 use Rattle.tt_kinds.specs.Shape.{Shape, Shapes, append, Meaning, fill, fill_all, name_of, rename_label}
 use Rattle.tt_kinds.specs.declared.table.Table.TheVariants.{VarLists}
-use Rattle.tt_kinds.specs.Parts.{child_sort, absent, AreLike, IsItem}
+use Rattle.tt_kinds.specs.Parts.{child_sort, AreLike, IsItem}
 use Rattle.tt_kinds.specs.Kinds.{Form, param, bound, plain, under, form_parts, refilled, form_shape, kind_form}
 use Rattle.tt_kinds.specs.Kinds.{kind_sort, kind_shape, relabelled, value_form, parts_shapes, child_shapes}
-use Rattle.tt_kinds.specs.Kinds.{children_shapes, items_tree, node_shape, list_shape}
+use Rattle.tt_kinds.specs.Kinds.{children_shapes, items_tree, handle_shape}
 use Rattle.tt_kinds.specs.declared.parts.Child.{Child}
 use Rattle.tt_kinds.specs.declared.parts.Child.TheVariants as child
 use Rattle.tt_kinds.specs.declared.parts.Parts.{Parts}
 use Rattle.tt_kinds.specs.declared.parts.Kind.{Kind}
 use Rattle.tt_kinds.specs.declared.parts.Kind.TheVariants as kind
-use Rattle.tt_kinds.specs.declared.parts.ListSort.{ListSort}
-use Rattle.tt_kinds.specs.declared.parts.ListSort.TheVariants as sort
 use Rattle.tt_kinds.specs.declared.ty_kind.TyKind.TheVariants as ty
 use Rattle.tt_kinds.specs.declared.const_kind.ConstKind.TheVariants as const
 use Rattle.tt_kinds.specs.declared.const_kind.ValTreeKind.{ValTreeKind}
 use Rattle.tt_kinds.specs.declared.const_kind.ValTreeKind.TheVariants as valtree
 use Rattle.tt_kinds.specs.Handle.{Ty}
-use Rattle.tt_kinds.specs.declared.parts.Node.{Node}
-use Rattle.tt_kinds.specs.declared.parts.List.{List as StoredList}
 use Rattle.tt_kinds.specs.contracts.parts.KindPartialEq.TheImpl as kinds
-use Rattle.tt_kinds.specs.contracts.parts.ListSortPartialEq.TheImpl as sorts
+use Rattle.tt_kinds.specs.contracts.table.TermTablePartialEq.TheImpl as tables
+use Rattle.tt_kinds.specs.declared.handle.AnyHandle.{AnyHandle}
+use Rattle.tt_kinds.specs.declared.table.TermTable.{TermTable}
+use Rattle.tt_kinds.specs.declared.table.TermTable.TheVariants as terms_of
 use Rattle.tt_kinds.proofs.KindEqualityLaws.{any_kind_exact}
 use Rattle.unify.specs.Substitution.{Assignment, variable_of, variable_in, bound_to, every, assign, assign_all}
 use Rattle.unify.proofs.SubstitutionLaws.{bound_variable, inside, first_tree, other_trees}
@@ -76,37 +75,33 @@ like_alike child.Absent d e = absurd (cc)
 like_alike c child.Absent e = absurd (cc)
 like_alike c d e = tt
 
--- an item is there
-no_absent : (s : ListSort) → IsItem s absent → ⊥
-no_absent sort.Tys h = h
-no_absent sort.Consts h = h
-no_absent sort.Args h = h
-no_absent sort.Pats h = h
-no_absent sort.Existentials h = h
-no_absent sort.Clauses h = h
-
-items_alike : (s : ListSort) (c d : Child) → IsItem s (child_sort c) → IsItem s (child_sort d) → Alike c d
-items_alike s child.Absent d first second = absurd (no_absent s first)
-items_alike s c child.Absent first second = absurd (no_absent s second)
+items_alike : (s : TermTable) (c d : Child) → IsItem s (child_sort c) → IsItem s (child_sort d) → Alike c d
+items_alike s child.Absent d first second = absurd first
+items_alike s c child.Absent first second = absurd second
 items_alike s c d first second = tt
 
 -- what is not told apart is equal
-tested : (b : Bool) → not b ≡ false → b ≡ true
+pub tested : (b : Bool) → not b ≡ false → b ≡ true
 tested true e = refl
 tested false e = absurd (true≢false e)
 
-sort_exact : (s s' : ListSort) → (sorts.ghosts).eq s s' ≡ true → s ≡ s'
-sort_exact sort.Tys sort.Tys e = refl
-sort_exact sort.Consts sort.Consts e = refl
-sort_exact sort.Args sort.Args e = refl
-sort_exact sort.Pats sort.Pats e = refl
-sort_exact sort.Existentials sort.Existentials e = refl
-sort_exact sort.Clauses sort.Clauses e = refl
-sort_exact _ _ e = absurd (false≢true e)
+table_exact : (s s' : TermTable) → (tables.ghosts).eq s s' ≡ true → s ≡ s'
+table_exact terms_of.Types terms_of.Types e = refl
+table_exact terms_of.Consts terms_of.Consts e = refl
+table_exact terms_of.Patterns terms_of.Patterns e = refl
+table_exact terms_of.Predicates terms_of.Predicates e = refl
+table_exact terms_of.Existentials terms_of.Existentials e = refl
+table_exact terms_of.ClauseLists terms_of.ClauseLists e = refl
+table_exact terms_of.TypeLists terms_of.TypeLists e = refl
+table_exact terms_of.ConstLists terms_of.ConstLists e = refl
+table_exact terms_of.ArgLists terms_of.ArgLists e = refl
+table_exact terms_of.PatternLists terms_of.PatternLists e = refl
+table_exact terms_of.ExistentialLists terms_of.ExistentialLists e = refl
+table_exact _ _ e = absurd (false≢true e)
 
--- sorts of lists that `!=` doesn't tell apart are equal
-pub same_sort : (s s' : ListSort) → not ((sorts.ghosts).eq s s') ≡ false → s ≡ s'
-same_sort s s' h = sort_exact s s' (tested ((sorts.ghosts).eq s s') h)
+-- tables that `!=` doesn't tell apart are equal
+pub same_table : (s s' : TermTable) → not ((tables.ghosts).eq s s') ≡ false → s ≡ s'
+same_table s s' h = table_exact s s' (tested ((tables.ghosts).eq s s') h)
 
 module _ (ρ : Assignment) where
   -- two terms of one label, which become one tree
@@ -116,14 +111,19 @@ module _ (ρ : Assignment) where
   same_contents l ts us None e bare h = let same : tree.term l (assign_all ρ ts) ≡ tree.term l (assign_all ρ us) = rw e at h in ap inside same
   same_contents l ts us (Some b) e bare h = let found = bound_variable (every ρ) l b e in ap (assign_all ρ) (bare found.variable found.is)
 
-  -- two lists of one sort, which become one tree
-  pub same_items : (s : ListSort) (ts us : Forest Depth) → assign ρ (items_tree s ts) ≡ assign ρ (items_tree s us) → assign_all ρ ts ≡ assign_all ρ us
-  same_items sort.Tys ts us h = ap inside h
-  same_items sort.Consts ts us h = ap inside h
-  same_items sort.Args ts us h = ap inside h
-  same_items sort.Pats ts us h = ap inside h
-  same_items sort.Existentials ts us h = ap inside h
-  same_items sort.Clauses ts us h = ap inside h
+  -- two lists of one table, which become one tree
+  pub same_items : (s : TermTable) (ts us : Forest Depth) → assign ρ (items_tree s ts) ≡ assign ρ (items_tree s us) → assign_all ρ ts ≡ assign_all ρ us
+  same_items terms_of.Types ts us h = ap inside h
+  same_items terms_of.Consts ts us h = ap inside h
+  same_items terms_of.Patterns ts us h = ap inside h
+  same_items terms_of.Predicates ts us h = ap inside h
+  same_items terms_of.Existentials ts us h = ap inside h
+  same_items terms_of.ClauseLists ts us h = ap inside h
+  same_items terms_of.TypeLists ts us h = ap inside h
+  same_items terms_of.ConstLists ts us h = ap inside h
+  same_items terms_of.ArgLists ts us h = ap inside h
+  same_items terms_of.PatternLists ts us h = ap inside h
+  same_items terms_of.ExistentialLists ts us h = ap inside h
 
   module _ (m : Meaning) where
     -- the first of children in order, and the others
@@ -168,7 +168,7 @@ module _ (ρ : Assignment) where
         split p.first q.first (child_shapes p.second) (child_shapes q.second) (like_alike p.first q.first like.first) all
 
     -- two lists that become one: so do their items, one by one
-    pub equal_items : (s : ListSort) (cs ds : List Child) → All (λ c. IsItem s (child_sort c)) cs → All (λ c. IsItem s (child_sort c)) ds
+    pub equal_items : (s : TermTable) (cs ds : List Child) → All (λ c. IsItem s (child_sort c)) cs → All (λ c. IsItem s (child_sort c)) ds
         → assign_all ρ (fill_all m (children_shapes cs)) ≡ assign_all ρ (fill_all m (children_shapes ds))
         → (i : ℕ) (c d : Child) → slice_get cs i ≡ Some c → slice_get ds i ≡ Some d
         → assign_all ρ (fill_all m (child_shapes c)) ≡ assign_all ρ (fill_all m (child_shapes d))
@@ -183,10 +183,10 @@ module _ (ρ : Assignment) where
         equal_items s cs ds (λ k e l. fit (suc k) e (omega (arith, l))) (λ k e l. fit' (suc k) e (omega (arith, l))) both.1 i c d at at'
 
     -- two terms that become one tree, from what was read of them and tested
-    pub parts_met : (l r : Node) (k other made : Kind) (p q : Parts) → p ≡ form_parts (kind_form k) → q ≡ form_parts (kind_form other)
+    pub parts_met : (l r : AnyHandle) (k other made : Kind) (p q : Parts) → p ≡ form_parts (kind_form k) → q ≡ form_parts (kind_form other)
         → AreLike p q → kind_form made ≡ refilled q (kind_form k) → not ((kinds.ghosts).eq made other) ≡ false
-        → fill m (node_shape l) ≡ fill m (kind_shape k) → fill m (node_shape r) ≡ fill m (kind_shape other)
-        → assign ρ (fill m (node_shape l)) ≡ assign ρ (fill m (node_shape r))
+        → fill m (handle_shape l) ≡ fill m (kind_shape k) → fill m (handle_shape r) ≡ fill m (kind_shape other)
+        → assign ρ (fill m (handle_shape l)) ≡ assign ρ (fill m (handle_shape r))
         → (assign_all ρ (fill_all m (child_shapes p.first)) ≡ assign_all ρ (fill_all m (child_shapes q.first)))
         × (assign_all ρ (fill_all m (child_shapes p.second)) ≡ assign_all ρ (fill_all m (child_shapes q.second)))
     parts_met l r k other made p q is is' like made_is same means means' h =
@@ -200,14 +200,14 @@ module _ (ρ : Assignment) where
         )
 
     -- items of two lists that become one tree, from what was read of them
-    pub items_met : (l r : StoredList) (s s' : ListSort) (cs ds : List Child) → s ≡ s'
-        → fill m (list_shape l) ≡ items_tree s (fill_all m (children_shapes cs)) → fill m (list_shape r) ≡ items_tree s' (fill_all m (children_shapes ds))
+    pub items_met : (l r : AnyHandle) (s s' : TermTable) (cs ds : List Child) → s ≡ s'
+        → fill m (handle_shape l) ≡ items_tree s (fill_all m (children_shapes cs)) → fill m (handle_shape r) ≡ items_tree s' (fill_all m (children_shapes ds))
         → All (λ c. IsItem s (child_sort c)) cs → All (λ c. IsItem s' (child_sort c)) ds
-        → assign ρ (fill m (list_shape l)) ≡ assign ρ (fill m (list_shape r))
+        → assign ρ (fill m (handle_shape l)) ≡ assign ρ (fill m (handle_shape r))
         → (i : ℕ) (c d : Child) → slice_get cs i ≡ Some c → slice_get ds i ≡ Some d
         → assign_all ρ (fill_all m (child_shapes c)) ≡ assign_all ρ (fill_all m (child_shapes d))
     items_met l r s s' cs ds e is is' fit fit' h =
         let fits : All (λ c. IsItem s (child_sort c)) ds = subst (λ x. All (λ c. IsItem x (child_sort c)) ds) (sym e) fit' in
-        let other : fill m (list_shape r) ≡ items_tree s (fill_all m (children_shapes ds)) = is' ∙ ap (λ x. items_tree x (fill_all m (children_shapes ds))) (sym e) in
+        let other : fill m (handle_shape r) ≡ items_tree s (fill_all m (children_shapes ds)) = is' ∙ ap (λ x. items_tree x (fill_all m (children_shapes ds))) (sym e) in
         equal_items s cs ds fit fits
         (same_items s (fill_all m (children_shapes cs)) (fill_all m (children_shapes ds)) (sym (ap (assign ρ) is) ∙ h ∙ ap (assign ρ) other))

@@ -14,19 +14,19 @@ use Rattle.tt_kinds.specs.Shape.{rename_entry, rename_label}
 use Rattle.tt_kinds.specs.Parts.{child_sort, AreLike, IsItem, term_kind_child}
 use Rattle.tt_kinds.specs.Kinds.{Form, param, bound, plain, under, form_parts, refilled, form_shape, kind_form}
 use Rattle.tt_kinds.specs.Kinds.{kind_sort, kind_shape, kind_table, relabelled, value_form, parts_shapes}
-use Rattle.tt_kinds.specs.Kinds.{children_shapes, items_tree, node_shape, list_shape, predicate_form, existential_form}
+use Rattle.tt_kinds.specs.Kinds.{children_shapes, items_tree, handle_shape, predicate_form, existential_form}
 use Rattle.tt_kinds.specs.Kinds.{RecordForm}
 use Rattle.tt_kinds.specs.declared.parts.Child.{Child}
 use Rattle.tt_kinds.specs.declared.parts.Child.TheVariants as child
 use Rattle.tt_kinds.specs.declared.parts.Parts.{Parts}
 use Rattle.tt_kinds.specs.declared.parts.Kind.{Kind}
 use Rattle.tt_kinds.specs.declared.parts.Kind.TheVariants as kind
-use Rattle.tt_kinds.specs.declared.parts.ListSort.{ListSort}
-use Rattle.tt_kinds.specs.declared.parts.List.{List as StoredList}
 use Rattle.tt_kinds.specs.contracts.parts.KindPartialEq.TheImpl as kinds
 use Rattle.tt_kinds.specs.contracts.parts.KindEq.TheImpl.Laws as kind_laws
-use Rattle.tt_kinds.specs.contracts.parts.ListSortPartialEq.TheImpl as sorts
-use Rattle.tt_kinds.specs.contracts.parts.ListSortEq.TheImpl.Laws as sort_laws
+use Rattle.tt_kinds.specs.contracts.table.TermTablePartialEq.TheImpl as tables
+use Rattle.tt_kinds.specs.contracts.table.TermTableEq.TheImpl.Laws as table_laws
+use Rattle.tt_kinds.specs.declared.handle.AnyHandle.{AnyHandle}
+use Rattle.tt_kinds.specs.declared.table.TermTable.{TermTable}
 use Rattle.tt_kinds.specs.contracts.parts.ChildPartialEq.TheImpl as children
 use Rattle.tt_kinds.specs.contracts.parts.ChildEq.TheImpl.Laws as child_laws
 use Rattle.tt_kinds.specs.declared.ty_kind.TyKind.TheVariants as ty
@@ -42,7 +42,6 @@ use Rattle.tt_kinds.specs.declared.existential.ExistentialPredicate.{Existential
 use Rattle.tt_kinds.specs.declared.existential.ExistentialPredicate.TheVariants as existential
 use Rattle.tt_kinds.specs.declared.term.TermKind.{TermKind}
 use Rattle.tt_kinds.specs.declared.term.TermKind.TheVariants as term
-use Rattle.tt_kinds.specs.declared.parts.Node.{Node}
 use Rattle.tt_kinds.specs.Handle.{Ty}
 use Rattle.tt_kinds.proofs.EqualityLaws.{both}
 use Rattle.tt_interner.specs.Rows.{Row, meaning, size, row_shape, kind_row, AreRows}
@@ -56,7 +55,7 @@ use Rattle.tt_interner.proofs.ViewLaws.{row_no_view}
 use Rattle.unify.specs.Substitution.{Assignment, GivesTypes, LeavesRoot, variable_of, assign, assign_all}
 use Rattle.unify.proofs.SubstitutionLaws.{inside, first_tree}
 use Rattle.unify.proofs.FormEqualities.{IsBare, kind_bare, same_items}
-use Rattle.unify.proofs.RootLaws.{is_told, are_told, first_sort, second_sort, parts_told, items_sorts, items_count}
+use Rattle.unify.proofs.RootLaws.{are_told, first_sort, second_sort, parts_told, items_tables, items_count}
 
 -- the contents of a term of this label are under a binder
 abbrev has_binder : {N : Type 0} → Label N → Bool
@@ -82,10 +81,6 @@ value_regular : (t : Ty) (k : ValTreeKind) → is_regular (relabelled const_labe
 value_regular t (valtree.Leaf s) = refl
 value_regular t (valtree.Branch cs) = refl
 
-term_told : (k : TermKind) → is_told (term_kind_child k) ≡ true
-term_told (term.Ty t) = refl
-term_told (term.Const c) = refl
-
 -- a term alone, and two terms
 term_alone : (k : TermKind) → are_told (term_kind_child k) child.Absent ≡ true
 term_alone (term.Ty t) = refl
@@ -101,19 +96,19 @@ abbrev record_told : RecordForm → Bool
 record_told f = are_told f.parts.first f.parts.second
 
 clause_told : (k : ClauseKind) → record_told (predicate_form (predicate.Clause k)) ≡ true
-clause_told (clause.Projection p) = term_told p.term.kind
+clause_told (clause.Projection p) = refl
 clause_told (clause.WellFormed t) = term_alone t.kind
 clause_told _ = refl
 
 predicate_told : (k : PredicateKind) → record_told (predicate_form k) ≡ true
 predicate_told (predicate.Clause c) = clause_told c
-predicate_told (predicate.NormalizesTo p) = term_told p.term.kind
+predicate_told (predicate.NormalizesTo p) = refl
 predicate_told (predicate.AliasRelate a b r) = terms_told a.kind b.kind
 predicate_told _ = refl
 
 existential_told : (k : ExistentialPredicate) → record_told (existential_form k) ≡ true
 existential_told (existential.Trait t) = refl
-existential_told (existential.Projection p) = term_told p.term.kind
+existential_told (existential.Projection p) = refl
 existential_told (existential.AutoTrait d) = refl
 
 kind_regular : (k : Kind) → is_regular (kind_form k) ≡ true
@@ -261,11 +256,11 @@ module _ (rows : List Row) (are : AreRows rows) where
         kind_one made other parts in_other (ap (fill (meaning rows)) shape ∙ same)
 
     -- two terms that become one tree are alike: the one has the other's kind, once it has the other's parts
-    pub terms_alike : (l r : Node) (k other : Kind) (p q : Parts) → p ≡ form_parts (kind_form k) → q ≡ form_parts (kind_form other)
+    pub terms_alike : (l r : AnyHandle) (k other : Kind) (p q : Parts) → p ≡ form_parts (kind_form k) → q ≡ form_parts (kind_form other)
         → HasParts (size rows) (kind_shape k) → HasParts (size rows) (kind_shape other)
-        → fill (meaning rows) (node_shape l) ≡ fill (meaning rows) (kind_shape k) → fill (meaning rows) (node_shape r) ≡ fill (meaning rows) (kind_shape other)
-        → LeavesRoot ρ (fill (meaning rows) (node_shape l)) → LeavesRoot ρ (fill (meaning rows) (node_shape r))
-        → assign ρ (fill (meaning rows) (node_shape l)) ≡ assign ρ (fill (meaning rows) (node_shape r))
+        → fill (meaning rows) (handle_shape l) ≡ fill (meaning rows) (kind_shape k) → fill (meaning rows) (handle_shape r) ≡ fill (meaning rows) (kind_shape other)
+        → LeavesRoot ρ (fill (meaning rows) (handle_shape l)) → LeavesRoot ρ (fill (meaning rows) (handle_shape r))
+        → assign ρ (fill (meaning rows) (handle_shape l)) ≡ assign ρ (fill (meaning rows) (handle_shape r))
         → AreLike p q × ((made : Kind) → kind_table made ≡ kind_table k → kind_form made ≡ refilled q (kind_form k) → made ≡ other)
     terms_alike l r k other p q is is' in_k in_other means means' leaves leaves' h =
         let alike = kinds_alike k other (subst (LeavesRoot ρ) means leaves) (subst (LeavesRoot ρ) means' leaves') (sym (ap (assign ρ) means) ∙ h ∙ ap (assign ρ) means') in (
@@ -274,15 +269,15 @@ module _ (rows : List Row) (are : AreRows rows) where
         )
 
 -- two lists that become one tree are of one sort and have as many items
-pub lists_alike : (ρ : Assignment) (m : Meaning) (l r : StoredList) (s s' : ListSort) (cs ds : List Child)
-    → fill m (list_shape l) ≡ items_tree s (fill_all m (children_shapes cs)) → fill m (list_shape r) ≡ items_tree s' (fill_all m (children_shapes ds))
+pub lists_alike : (ρ : Assignment) (m : Meaning) (l r : AnyHandle) (s s' : TermTable) (cs ds : List Child)
+    → fill m (handle_shape l) ≡ items_tree s (fill_all m (children_shapes cs)) → fill m (handle_shape r) ≡ items_tree s' (fill_all m (children_shapes ds))
     → All (λ c. IsItem s (child_sort c)) cs → All (λ c. IsItem s' (child_sort c)) ds
-    → assign ρ (fill m (list_shape l)) ≡ assign ρ (fill m (list_shape r)) → (s ≡ s') × (length cs ≡ length ds)
+    → assign ρ (fill m (handle_shape l)) ≡ assign ρ (fill m (handle_shape r)) → (s ≡ s') × (length cs ≡ length ds)
 lists_alike ρ m l r s s' cs ds is is' fit fit' h =
     let ts : Forest Depth = fill_all m (children_shapes cs) in
     let us : Forest Depth = fill_all m (children_shapes ds) in
     let same : assign ρ (items_tree s ts) ≡ assign ρ (items_tree s' us) = sym (ap (assign ρ) is) ∙ h ∙ ap (assign ρ) is' in
-    let sorts : s ≡ s' = items_sorts ρ s s' ts us same in
+    let sorts : s ≡ s' = items_tables ρ s s' ts us same in
     let items : assign_all ρ ts ≡ assign_all ρ us = same_items ρ s ts us (same ∙ ap (λ x. assign ρ (items_tree x us)) (sym sorts)) in
     (sorts, sym (items_count ρ m s cs fit) ∙ ap count_trees items ∙ items_count ρ m s' ds fit')
 
@@ -290,9 +285,9 @@ lists_alike ρ m l r s s' cs ds is is' fit fit' h =
 pub other_kind : (k other : Kind) → not ((kinds.ghosts).eq k other) ≡ true → k ≡ other → ⊥
 other_kind k other differ same = not_both ((kinds.ghosts).eq k other) (subst (λ x. (kinds.ghosts).eq k x ≡ true) same ((kind_laws.laws-law).refl k)) differ
 
--- nor are such sorts of lists
-pub other_sort : (s s' : ListSort) → not ((sorts.ghosts).eq s s') ≡ true → s ≡ s' → ⊥
-other_sort s s' differ same = not_both ((sorts.ghosts).eq s s') (subst (λ x. (sorts.ghosts).eq s x ≡ true) same ((sort_laws.laws-law).refl s)) differ
+-- nor are such tables
+pub other_table : (s s' : TermTable) → not ((tables.ghosts).eq s s') ≡ true → s ≡ s' → ⊥
+other_table s s' differ same = not_both ((tables.ghosts).eq s s') (subst (λ x. (tables.ghosts).eq s x ≡ true) same ((table_laws.laws-law).refl s)) differ
 
 -- nor are such children
 pub other_child : (c d : Child) → (children.ghosts).eq c d ≡ false → c ≡ d → ⊥

@@ -1,5 +1,5 @@
 -- A variable and a type that holds it never become one tree: trees are finite.
-use Rattle.std.proofs.Common.{◌≡◌, refl, ℕ, zero, suc, ◌+◌, ◌<◌, List, [], ◌∷◌, length, Bool, true, false, Option, Some}
+use Rattle.std.proofs.Common.{◌≡◌, refl, ℕ, zero, suc, ◌<◌, ◌≤◌, List, [], ◌∷◌, length, Bool, true, false, Option, Some}
 use Rattle.std.proofs.Common.{None, sym, subst, ap, ◌∙◌, arith}
 use Rattle.std.specs.Prelude.{⊤, if◌then◌else◌, ◌&&◌, ◌==◌}
 use Rattle.tt_kinds.specs.Label.{Name, Label, Sort, type_sort, const_sort, type_label, const_label}
@@ -21,9 +21,10 @@ use Rattle.tt_interner.specs.Rows.{tys_row, consts_row, args_row, pats_row, vars
 use Rattle.tt_interner.specs.Rows.{text_row, declared_row, defined_row, row_shape, is_in, table, size, meaning, AreRows}
 use Rattle.tt_interner.specs.Stored.{Terms}
 use Rattle.tt_fold.specs.Steps.{tree_in}
-use Rattle.unify.specs.Substitution.{Assignment, variable_of, variable_in, bound_to, apply, every, assign, assign_all}
-use Rattle.unify.specs.Substitution.{IsWithout, AreWithout, Solves}
+use Rattle.unify.specs.Substitution.{Substitution, Assignment, variable_of, variable_in, bound_to, apply, every}
+use Rattle.unify.specs.Substitution.{assign, assign_all, IsWithout, AreWithout, Solves}
 use Rattle.unify.specs.Bindings.{substitution}
+use Rattle.unify.specs.Triangular.{weight, weights}
 use Rattle.unify.proofs.SubstitutionLaws.{no_variable}
 use Rattle.unify.proofs.FormEqualities.{contents, IsBare, kind_bare}
 use Rattle.unify.proofs.GeneralLaws.{solution_factors, variable_assigned}
@@ -43,19 +44,9 @@ abbrev mutual
   AreProper tree.none = ⊤
   AreProper (tree.also t ts) = IsProper t × AreProper ts
 
-abbrev mutual
-  -- how many nodes a tree has
-  weight : Tree Depth → ℕ
-  weight (tree.param o i name) = 0
-  weight (tree.bound o d e) = 0
-  weight (tree.region r) = 0
-  weight (tree.term l ts) = suc (weights ts)
-  weight (tree.node l ts) = suc (weights ts)
-  weight (tree.binder vs t) = suc (weight t)
-
-  weights : Forest Depth → ℕ
-  weights tree.none = 0
-  weights (tree.also t ts) = weight t + weights ts
+-- no variable in an entry has contents
+abbrev pub AllProper : Substitution → Type 0
+AllProper entries = (v : ℕ) (t : Tree Depth) → entries v ≡ Some t → IsProper t
 
 module _ (ρ : Assignment) (v : ℕ) where
   term_lighter : (l : Label Name) (ts : Forest Depth) (o : Option ℕ) → variable_of l ≡ o
@@ -87,28 +78,27 @@ module _ (ρ : Assignment) (v : ℕ) where
     all_lighter tree.none proper h = tt
     all_lighter (tree.also t ts) proper h = (lighter t proper.0 (omega (arith, h)), all_lighter ts proper.1 (omega (arith, h)))
 
-  term_never : (l : Label Name) (ts : Forest Depth) (o : Option ℕ) → variable_of l ≡ o
+  term_heavy : (l : Label Name) (ts : Forest Depth) (o : Option ℕ) → variable_of l ≡ o
       → ((w : ℕ) → variable_of l ≡ Some w → ts ≡ tree.none) → (variable_of l ≡ Some v → ⊥) → (weights (assign_all ρ ts) < weight (ρ v) → AreWithout v ts)
-      → ρ v ≡ assign ρ (tree.term l ts) → IsWithout v (tree.term l ts)
-  term_never l ts None e bare other below h =
+      → weight (assign ρ (tree.term l ts)) ≤ weight (ρ v) → IsWithout v (tree.term l ts)
+  term_heavy l ts None e bare other below h =
       let free : bound_to (every ρ) l ≡ None = no_variable (every ρ) l e in
-      let is : ρ v ≡ tree.term l (assign_all ρ ts) = rw free at h in
-      let same : weight (ρ v) ≡ suc (weights (assign_all ρ ts)) = ap weight is in
-      (other, below (omega (arith, same)))
-  term_never l ts (Some w) e bare other below h = (other, subst (AreWithout v) (sym (bare w e)) tt)
+      let less : suc (weights (assign_all ρ ts)) ≤ weight (ρ v) = rw free at h in
+      (other, below (omega (arith, less)))
+  term_heavy l ts (Some w) e bare other below h = (other, subst (AreWithout v) (sym (bare w e)) tt)
 
-  -- a tree that becomes what the variable does, and is another one, holds no such variable
+  -- a tree that becomes no more than the variable does, and is another one, holds no such variable
+  pub no_heavier : (t : Tree Depth) → IsProper t → (variable_in t ≡ Some v → ⊥) → weight (assign ρ t) ≤ weight (ρ v) → IsWithout v t
+  no_heavier (tree.param o i name) proper other h = tt
+  no_heavier (tree.bound o d e) proper other h = tt
+  no_heavier (tree.region r) proper other h = tt
+  no_heavier (tree.term l ts) proper other h = term_heavy l ts (variable_of l) refl proper.0 other (all_lighter ts proper.1) h
+  no_heavier (tree.node l ts) proper other h = all_lighter ts proper (omega (arith, h))
+  no_heavier (tree.binder vs t) proper other h = lighter t proper (omega (arith, h))
+
+  -- so does a tree that becomes what the variable does
   never_within : (t : Tree Depth) → IsProper t → (variable_in t ≡ Some v → ⊥) → ρ v ≡ assign ρ t → IsWithout v t
-  never_within (tree.param o i name) proper other h = tt
-  never_within (tree.bound o d e) proper other h = tt
-  never_within (tree.region r) proper other h = tt
-  never_within (tree.term l ts) proper other h = term_never l ts (variable_of l) refl proper.0 other (all_lighter ts proper.1) h
-  never_within (tree.node l ts) proper other h =
-      let same : weight (ρ v) ≡ suc (weights (assign_all ρ ts)) = ap weight h in
-      all_lighter ts proper (omega (arith, same))
-  never_within (tree.binder vs t) proper other h =
-      let same : weight (ρ v) ≡ suc (weight (assign ρ t)) = ap weight h in
-      lighter t proper (omega (arith, same))
+  never_within t proper other h = let same : weight (ρ v) ≡ weight (assign ρ t) = ap weight h in no_heavier t proper other (omega (arith, same))
 
 -- The interner's trees are proper.
 

@@ -44,7 +44,7 @@ module _ (σ : Substitution) where
     all_apply (tree.also t ts) proper = rw (assigned_applies t proper.0, all_apply ts proper.1) refl
 
 module _ (terms : Terms) (entries : List (Option Ty)) (are : AreRows terms.rows) where
-  entry_proper : (v : ℕ) (o : Option Ty) → get_or entries v None ≡ o → (r : Tree Depth) → substitution terms entries v ≡ Some r → IsProper r
+  pub entry_proper : (v : ℕ) (o : Option Ty) → get_or entries v None ≡ o → (r : Tree Depth) → substitution terms entries v ≡ Some r → IsProper r
   entry_proper v None e r is =
       let nothing : substitution terms entries v ≡ None = reads terms entries v ∙ ap (bound_tree (meaning terms.rows)) e in
       absurd (cc)
@@ -78,12 +78,12 @@ tree_is_type terms t are owned =
     let means = Means-row terms.rows are Types t.number at.0 at.1 in
     subst IsType (sym means.tree) (row_is_type (meaning terms.rows) at.0 means.same_table)
 
-entry_inside : (terms : Terms) (xs : List (Option Ty)) (v : ℕ) (t : Ty) → get_or xs v None ≡ Some t → AreOwned (option_shape ty_shape) terms xs → IsOwned ty_shape terms t
+pub entry_inside : (terms : Terms) (xs : List (Option Ty)) (v : ℕ) (t : Ty) → get_or xs v None ≡ Some t → AreOwned (option_shape ty_shape) terms xs → IsOwned ty_shape terms t
 entry_inside terms [] v t e owned = absurd (cc)
 entry_inside terms (x ∷ xs) zero t e owned = some_owned ty_shape terms x t e owned.0
 entry_inside terms (x ∷ xs) (suc v) t e owned = entry_inside terms xs v t e owned.1
 
-past_end : (xs : List (Option Ty)) (v : ℕ) → length xs ≤ v → get_or xs v None ≡ None
+pub past_end : (xs : List (Option Ty)) (v : ℕ) → length xs ≤ v → get_or xs v None ≡ None
 past_end [] v h = refl
 past_end (x ∷ xs) zero h = absurd (omega (arith, h))
 past_end (x ∷ xs) (suc v) h = past_end xs v (omega (arith, h))

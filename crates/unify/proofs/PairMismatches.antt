@@ -3,28 +3,24 @@ use Rattle.std.proofs.Common.{◌≡◌, ◌≢◌, refl, ℕ, ◌<◌, ◌≤�
 use Rattle.std.proofs.Common.{IfErr}
 use Rattle.std.proofs.Common.{Bool, true, false, sym, subst, ap, ◌∙◌}
 use Rattle.std.proofs.lemmas.Bool.{true≢false}
-use Rattle.std.specs.Prelude.{unwrap_or}
+use Rattle.std.specs.Prelude.{IsTrue, unwrap_or}
 use Rattle.std.proofs.lemmas.Option.{none-some, same_Some}
 use Rattle.tt_kinds.specs.Label.{Name, Label, type_label, infer_type, label_table, list_label}
 use Rattle.tt_kinds.specs.declared.ty_kind.InferTy.TheVariants.{TyVar}
-use Rattle.tt_kinds.specs.declared.table.Table.TheVariants.{Types, ClauseLists, ArgLists}
+use Rattle.tt_kinds.specs.declared.table.Table.TheVariants.{Types, ArgLists}
 use Rattle.tt_kinds.specs.Tree as tree
 use Rattle.tt_kinds.specs.Tree.{Depth, Tree}
 use Rattle.tt_kinds.specs.Shape as shape
 use Rattle.tt_kinds.specs.Shape.{AreParts, fill, fill_all}
-use Rattle.tt_kinds.specs.Parts.{ChildSort, a_node, a_list, child_sort, node_table, node_number, list_table}
-use Rattle.tt_kinds.specs.Parts.{list_number, list_sort}
-use Rattle.tt_kinds.specs.Parts.{sort_list_table}
-use Rattle.tt_kinds.specs.Kinds.{region_shape, node_shape, list_shape, child_shapes, ty_shape}
+use Rattle.tt_kinds.specs.Parts.{ChildSort, a_stored, child_sort}
+use Rattle.tt_kinds.specs.TermTable.{has_items, term_table}
+use Rattle.tt_kinds.specs.declared.handle.AnyHandle.{AnyHandle}
+use Rattle.tt_kinds.specs.declared.table.TermTable.TheVariants as terms_of
+use Rattle.tt_kinds.specs.Kinds.{region_shape, handle_shape, child_shapes, ty_shape}
 use Rattle.tt_kinds.specs.Handle.{Ty}
 use Rattle.tt_kinds.specs.declared.region_kind.RegionKind.{RegionKind}
 use Rattle.tt_kinds.specs.declared.region_kind.RegionKind.TheVariants.{ReErased}
 use Rattle.tt_kinds.specs.declared.generic_arg.GenericArgKind.TheVariants as arg
-use Rattle.tt_kinds.specs.declared.parts.Node.{Node}
-use Rattle.tt_kinds.specs.declared.parts.Node.TheVariants as node
-use Rattle.tt_kinds.specs.declared.parts.List.{List as StoredList}
-use Rattle.tt_kinds.specs.declared.parts.ListSort.{ListSort}
-use Rattle.tt_kinds.specs.declared.parts.ListSort.TheVariants as sort
 use Rattle.tt_kinds.specs.declared.parts.Child.{Child}
 use Rattle.tt_kinds.specs.declared.parts.Child.TheVariants as child
 use Rattle.tt_interner.specs.Owned.{IsOwned}
@@ -46,8 +42,8 @@ use Rattle.unify.specs.declared.pairs.Pair.{Pair}
 use Rattle.unify.proofs.SubstitutionLaws.{bound_variable, first_tree}
 use Rattle.unify.proofs.PairLaws.{pair_parts}
 use Rattle.unify.proofs.ResolverSteps.{EntrySays}
-use Rattle.unify.proofs.RootLaws.{is_told, table_sort, first_sort, child_told, stored_root, region_left}
-use Rattle.unify.proofs.SolutionLaws.{lists_met, nodes_met}
+use Rattle.unify.proofs.RootLaws.{first_sort, child_told, stored_root, region_left, table_one}
+use Rattle.unify.proofs.SolutionLaws.{stored_met}
 
 -- what never fails with a mismatch promises anything of one
 pub never_mismatch : {T : Type 0} (A : Type 0) (result : Result T Fault) → IfErr result (λ f. IsMismatch f → ⊥) → IfErr result (λ f. IsMismatch f → A)
@@ -64,36 +60,14 @@ pub condition_met : {T : Type 0} (A P : Type 0) (result : Result T Fault) → P 
 condition_met A P (Ok e) condition promised = tt
 condition_met A P (Err f) condition promised = λ is. promised is condition
 
-no_list_told : (c : Child) → IsNoList c → is_told c ≡ true
-no_list_told (child.List l) free = absurd free
-no_list_told c free = refl
-
 -- a child of this sort is a list
 abbrev is_list : ChildSort → Bool
-is_list (a_list s) = true
-is_list (a_node ClauseLists) = true
+is_list (a_stored t) = has_items t
 is_list s = false
 
-list_listed : (s : ListSort) → is_list (table_sort (Some (sort_list_table s))) ≡ true
-list_listed sort.Tys = refl
-list_listed sort.Consts = refl
-list_listed sort.Args = refl
-list_listed sort.Pats = refl
-list_listed sort.Existentials = refl
-list_listed sort.Clauses = refl
-
-node_unlisted : (n : Node) → node_table n ≢ ClauseLists → is_list (a_node (node_table n)) ≡ false
-node_unlisted (node.Clauses l) free = absurd (free refl)
-node_unlisted n free = refl
-
 unlisted : (c : Child) → IsNoList c → is_list (child_sort c) ≡ false
-unlisted (child.List l) free = absurd free
-unlisted (child.Node n) free = node_unlisted n free
+unlisted (child.Stored h) free = free
 unlisted c free = refl
-
--- a list's table is no other child's
-list_other : (s : ListSort) (c : Child) → IsNoList c → table_sort (Some (sort_list_table s)) ≡ child_sort c → ⊥
-list_other s c free h = true≢false (sym (list_listed s) ∙ ap is_list h ∙ unlisted c free)
 
 -- the first argument of a row, if it is a region
 abbrev region_in : Row → RegionKind
@@ -103,10 +77,6 @@ region_in _ = ReErased
 region_one : (r r' : RegionKind) → region_shape r ≡ region_shape r' → r ≡ r'
 region_one r r' h =
     ap region_in (shape_one (args_row (arg.Lifetime r ∷ [])) (args_row (arg.Lifetime r' ∷ [])) (ap (λ s. shape.node (list_label ArgLists) (shape.also s shape.none)) h))
-
-type_node : (n : Node) → node_table n ≡ Types → (t : Ty) × (n ≡ node.Ty t)
-type_node (node.Ty t) e = (t, refl)
-type_node n e = absurd (cc)
 
 label_root : (l : Label Name) (v : ℕ) → variable_of l ≡ Some v → label_table l ≡ Some Types
 label_root (type_label (infer_type (TyVar w))) v is = refl
@@ -119,31 +89,26 @@ variable_root t v is = absurd (cc)
 
 module _ (rows : List Row) (are : AreRows rows) where
   -- a term that is no type is no variable
-  no_type_left : (ρ : Assignment) (n : Node) → node_number n < size rows (node_table n) → (node_table n ≡ Types → ⊥) → LeavesRoot ρ (fill (meaning rows) (node_shape n))
+  no_type_left : (ρ : Assignment) (n : AnyHandle) → n.number < size rows (term_table n.table) → (term_table n.table ≡ Types → ⊥) → LeavesRoot ρ (fill (meaning rows) (handle_shape n))
   unfolding fill
   no_type_left ρ n inside other v is =
-      absurd (other (same_Some (node_table n) Types
-      (sym ((distinct rows are).roots (node_table n) (node_number n) inside) ∙ variable_root (meaning rows (node_table n) (node_number n)) v is)))
+      absurd (other (same_Some (term_table n.table) Types
+      (sym ((distinct rows are).roots (term_table n.table) n.number inside) ∙ variable_root (meaning rows (term_table n.table) n.number) v is)))
 
   module _ (ρ : Assignment) (types : GivesTypes ρ) where
     -- children that become the same are of one sort
-    sorts_met : (c d : Child) → IsNoList c → IsNoList d → AreParts (size rows) (child_shapes c) → AreParts (size rows) (child_shapes d)
+    sorts_met : (c d : Child) → AreParts (size rows) (child_shapes c) → AreParts (size rows) (child_shapes d)
         → assign_all ρ (fill_all (meaning rows) (child_shapes c)) ≡ assign_all ρ (fill_all (meaning rows) (child_shapes d)) → child_sort c ≡ child_sort d
-    sorts_met c d free free' p q h =
-        sym (child_told ρ types (size rows) (meaning rows) (distinct rows are) c (no_list_told c free) p) ∙ ap first_sort h
-        ∙ child_told ρ types (size rows) (meaning rows) (distinct rows are) d (no_list_told d free') q
+    sorts_met c d p q h =
+        sym (child_told ρ types (size rows) (meaning rows) (distinct rows are) c p) ∙ ap first_sort h
+        ∙ child_told ρ types (size rows) (meaning rows) (distinct rows are) d q
 
     -- a list and another child
-    list_apart : (c d : Child) (l : StoredList) → child_shapes c ≡ shape.also (list_shape l) shape.none → IsNoList d
+    list_apart : (c d : Child) (l : AnyHandle) → c ≡ child.Stored l → IsTrue (has_items l.table) → IsNoList d
         → AreParts (size rows) (child_shapes c) → AreParts (size rows) (child_shapes d)
         → assign_all ρ (fill_all (meaning rows) (child_shapes c)) ≡ assign_all ρ (fill_all (meaning rows) (child_shapes d)) → ⊥
-    unfolding fill
-    list_apart c d l is free p q h =
-        let inside = (subst (AreParts (size rows)) is p).0 in
-        let root : table_sort (Some (list_table l)) ≡ first_sort (assign_all ρ (fill_all (meaning rows) (child_shapes c))) =
-        sym (ap (λ ss. first_sort (assign_all ρ (fill_all (meaning rows) ss))) is
-        ∙ ap table_sort (stored_root ρ types (size rows) (meaning rows) (distinct rows are) (list_table l) (list_number l) inside)) in
-        list_other (list_sort l) d free (root ∙ ap first_sort h ∙ child_told ρ types (size rows) (meaning rows) (distinct rows are) d (no_list_told d free) q)
+    list_apart c d l is items free p q h =
+        true≢false (sym items ∙ ap (λ x. is_list (child_sort x)) (sym is) ∙ ap is_list (sorts_met c d p q h) ∙ unlisted d free)
 
     regions_apart : (r r' : RegionKind) → AreParts (size rows) (child_shapes (child.Region r)) → AreParts (size rows) (child_shapes (child.Region r'))
         → assign_all ρ (fill_all (meaning rows) (child_shapes (child.Region r))) ≡ assign_all ρ (fill_all (meaning rows) (child_shapes (child.Region r'))) → r ≡ r'
@@ -155,11 +120,10 @@ module _ (rows : List Row) (are : AreRows rows) where
         (row_no_view (args_row (arg.Lifetime r ∷ []))).0 (row_no_view (args_row (arg.Lifetime r' ∷ []))).0 p.0 q.0 trees)
 
     -- a child that is neither a term nor a list, and another child
-    leaf_apart : (c d : Child) → ((n : Node) → c ≢ child.Node n) → IsNoList c → IsNoList d → c ≢ d
+    leaf_apart : (c d : Child) → ((n : AnyHandle) → c ≢ child.Stored n) → IsNoList c → IsNoList d → c ≢ d
         → AreParts (size rows) (child_shapes c) → AreParts (size rows) (child_shapes d) → child_sort c ≡ child_sort d
         → assign_all ρ (fill_all (meaning rows) (child_shapes c)) ≡ assign_all ρ (fill_all (meaning rows) (child_shapes d)) → ⊥
-    leaf_apart (child.Node n) d leaf free free' other p q sorts h = leaf n refl
-    leaf_apart (child.List l) d leaf free free' other p q sorts h = free
+    leaf_apart (child.Stored n) d leaf free free' other p q sorts h = leaf n refl
     leaf_apart child.Absent child.Absent leaf free free' other p q sorts h = other refl
     leaf_apart (child.Region r) (child.Region r') leaf free free' other p q sorts h = other (ap child.Region (regions_apart r r' p q h))
     leaf_apart _ _ leaf free free' other p q sorts h = cc
@@ -180,61 +144,60 @@ module _ (a : Terms) (xs : List (Option Ty)) (ps : List Pair) where
   }
 
   -- two lists that no assignment makes equal
-  pub lists_mismatch : (p : Pair) (l r : StoredList) → child_shapes p.left ≡ shape.also (list_shape l) shape.none → child_shapes p.right ≡ shape.also (list_shape r) shape.none
-      → ((ρ : Assignment) → assign ρ (tree_in a.rows (list_shape l)) ≢ assign ρ (tree_in a.rows (list_shape r)))
+  pub lists_mismatch : (p : Pair) (l r : AnyHandle) → p.left ≡ child.Stored l → p.right ≡ child.Stored r
+      → ((ρ : Assignment) → assign ρ (tree_in a.rows (handle_shape l)) ≢ assign ρ (tree_in a.rows (handle_shape r)))
       → HasNoOwnSolution (λ ρ. Equates ρ a p) a xs ps
-  lists_mismatch p l r is is' apart = record { never = λ ρ meets solution. apart ρ (lists_met ρ a p l r is is' meets.1) }
+  lists_mismatch p l r is is' apart = record { never = λ ρ meets solution. apart ρ (stored_met ρ a p l r is is' meets.1) }
 
   module _ (are : AreRows a.rows) (p : Pair) (owned : IsOwned pair_shape a p) where
     -- a list and no list
-    pub list_mismatch : (l : StoredList) → child_shapes p.left ≡ shape.also (list_shape l) shape.none → IsNoList p.right
+    pub list_mismatch : (l : AnyHandle) → (p.left ≡ child.Stored l) × IsTrue (has_items l.table) → IsNoList p.right
         → HasNoOwnSolution (λ ρ. Equates ρ a p) a xs ps
     list_mismatch l is free = let parts = pair_parts a p owned in record {
-      never = λ ρ meets solution. list_apart a.rows are ρ meets.0.types p.left p.right l is free parts.0 parts.1 meets.1;
+      never = λ ρ meets solution. list_apart a.rows are ρ meets.0.types p.left p.right l is.0 is.1 free parts.0 parts.1 meets.1;
     }
 
     -- no list and a list
-    pub other_mismatch : (l : StoredList) → IsNoList p.left → child_shapes p.right ≡ shape.also (list_shape l) shape.none
+    pub other_mismatch : (l : AnyHandle) → IsNoList p.left → (p.right ≡ child.Stored l) × IsTrue (has_items l.table)
         → HasNoOwnSolution (λ ρ. Equates ρ a p) a xs ps
     other_mismatch l free is = let parts = pair_parts a p owned in record {
-      never = λ ρ meets solution. list_apart a.rows are ρ meets.0.types p.right p.left l is free parts.1 parts.0 (sym meets.1);
+      never = λ ρ meets solution. list_apart a.rows are ρ meets.0.types p.right p.left l is.0 is.1 free parts.1 parts.0 (sym meets.1);
     }
 
     module _ (free : IsNoList p.left) (free' : IsNoList p.right) (other : p.left ≢ p.right) where
       -- two children, neither a list, of which the first is no term
-      pub left_mismatch : ((n : Node) → p.left ≢ child.Node n) → HasNoOwnSolution (λ ρ. Equates ρ a p) a xs ps
+      pub left_mismatch : ((n : AnyHandle) → p.left ≢ child.Stored n) → HasNoOwnSolution (λ ρ. Equates ρ a p) a xs ps
       left_mismatch leaf = let parts = pair_parts a p owned in record {
         never = λ ρ meets solution. leaf_apart a.rows are ρ meets.0.types p.left p.right leaf free free' other parts.0 parts.1
-            (sorts_met a.rows are ρ meets.0.types p.left p.right free free' parts.0 parts.1 meets.1) meets.1;
+            (sorts_met a.rows are ρ meets.0.types p.left p.right parts.0 parts.1 meets.1) meets.1;
       }
 
       -- or the second is none
-      pub right_mismatch : ((n : Node) → p.right ≢ child.Node n) → HasNoOwnSolution (λ ρ. Equates ρ a p) a xs ps
+      pub right_mismatch : ((n : AnyHandle) → p.right ≢ child.Stored n) → HasNoOwnSolution (λ ρ. Equates ρ a p) a xs ps
       right_mismatch leaf = let parts = pair_parts a p owned in record {
         never = λ ρ meets solution. leaf_apart a.rows are ρ meets.0.types p.right p.left leaf free' free (λ e. other (sym e)) parts.1 parts.0
-            (sorts_met a.rows are ρ meets.0.types p.right p.left free' free parts.1 parts.0 (sym meets.1)) (sym meets.1);
+            (sorts_met a.rows are ρ meets.0.types p.right p.left parts.1 parts.0 (sym meets.1)) (sym meets.1);
       }
 
     -- two terms, not both types, that no assignment makes equal that leaves them if they are variables
-    pub nodes_mismatch : (l r : Node) → p.left ≡ child.Node l → p.right ≡ child.Node r
-        → ((t u : Ty) → l ≡ node.Ty t → r ≡ node.Ty u → ⊥)
-        → ((ρ : Assignment) → GivesTypes ρ → LeavesRoot ρ (tree_in a.rows (node_shape l)) → LeavesRoot ρ (tree_in a.rows (node_shape r))
-        → assign ρ (tree_in a.rows (node_shape l)) ≢ assign ρ (tree_in a.rows (node_shape r)))
+    pub stored_mismatch : (l r : AnyHandle) → p.left ≡ child.Stored l → p.right ≡ child.Stored r
+        → ((l.table ≡ terms_of.Types) × (r.table ≡ terms_of.Types) → ⊥)
+        → ((ρ : Assignment) → GivesTypes ρ → LeavesRoot ρ (tree_in a.rows (handle_shape l)) → LeavesRoot ρ (tree_in a.rows (handle_shape r))
+        → assign ρ (tree_in a.rows (handle_shape l)) ≢ assign ρ (tree_in a.rows (handle_shape r)))
         → HasNoOwnSolution (λ ρ. Equates ρ a p) a xs ps
     unfolding fill
-    nodes_mismatch l r is is' not_types apart =
+    stored_mismatch l r is is' not_types apart =
         let parts = pair_parts a p owned in
         let inside = (subst (λ c. AreParts (size a.rows) (child_shapes c)) is parts.0).0 in
         let inside' = (subst (λ c. AreParts (size a.rows) (child_shapes c)) is' parts.1).0 in
         record {
           never = λ ρ meets solution.
               let types = meets.0.types in
-              let same = nodes_met ρ a p l r is is' meets.1 in
-              let tables : node_table l ≡ node_table r = same_Some (node_table l) (node_table r)
-              (sym (stored_root ρ types (size a.rows) (meaning a.rows) (distinct a.rows are) (node_table l) (node_number l) inside)
-              ∙ ap tree_table same ∙ stored_root ρ types (size a.rows) (meaning a.rows) (distinct a.rows are) (node_table r) (node_number r) inside') in
-              let never : node_table l ≡ Types → ⊥ = λ e.
-              let t = type_node l e in let u = type_node r (sym tables ∙ e) in not_types t.0 u.0 t.1 u.1 in
+              let same = stored_met ρ a p l r is is' meets.1 in
+              let tables : term_table l.table ≡ term_table r.table = same_Some (term_table l.table) (term_table r.table)
+              (sym (stored_root ρ types (size a.rows) (meaning a.rows) (distinct a.rows are) (term_table l.table) l.number inside)
+              ∙ ap tree_table same ∙ stored_root ρ types (size a.rows) (meaning a.rows) (distinct a.rows are) (term_table r.table) r.number inside') in
+              let never : term_table l.table ≡ Types → ⊥ = λ e. not_types (table_one l.table terms_of.Types e, table_one r.table terms_of.Types (sym tables ∙ e)) in
               apart ρ types (no_type_left a.rows are ρ l inside never) (no_type_left a.rows are ρ r inside' (λ e. never (tables ∙ e))) same;
         }
 

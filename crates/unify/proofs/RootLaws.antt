@@ -1,31 +1,26 @@
 -- What an assignment of types leaves of a tree: the table of its root, and so the sorts of children.
 use Rattle.std.proofs.Common.{◌≡◌, refl, ℕ, ◌<◌, List, [], ◌∷◌, All, length, Option, Some, None, sym, ap, ◌∙◌}
-use Rattle.std.proofs.Common.{Bool, true, false, ◌&&◌, zero, suc, arith}
+use Rattle.std.proofs.Common.{Bool, true, false, zero, suc, arith}
 use Rattle.std.proofs.lemmas.Bool.{false≢true}
 use Rattle.std.specs.Prelude.{IsTrue}
 use Rattle.tt_kinds.specs.Label.{Name, Label, type_label, infer_type, is_type, label_table}
 use Rattle.tt_kinds.specs.declared.ty_kind.InferTy.TheVariants.{TyVar}
 use Rattle.tt_kinds.specs.declared.table.Table.{Table}
-use Rattle.tt_kinds.specs.declared.table.Table.TheVariants.{Types, TypeLists, ConstLists, ArgLists}
-use Rattle.tt_kinds.specs.declared.table.Table.TheVariants.{PatternLists, ExistentialLists}
+use Rattle.tt_kinds.specs.declared.table.Table.TheVariants as table
+use Rattle.tt_kinds.specs.declared.table.Table.TheVariants.{Types}
+use Rattle.tt_kinds.specs.declared.table.TermTable.{TermTable}
+use Rattle.tt_kinds.specs.declared.table.TermTable.TheVariants as terms_of
 use Rattle.tt_kinds.specs.Tree as tree
 use Rattle.tt_kinds.specs.Tree.{Depth, Tree, Forest, count_trees}
 use Rattle.tt_kinds.specs.Shape.{Shapes, Meaning, Sizes, AreParts, append, fill, fill_all, sort_table}
-use Rattle.tt_kinds.specs.Parts.{ChildSort, absent, a_region, a_node, a_list, child_sort, node_table, node_number}
-use Rattle.tt_kinds.specs.Parts.{IsItem}
-use Rattle.tt_kinds.specs.Parts.{list_table, list_number, list_sort}
+use Rattle.tt_kinds.specs.Parts.{ChildSort, absent, a_region, a_stored, child_sort, IsItem}
+use Rattle.tt_kinds.specs.TermTable.{term_table}
 use Rattle.tt_kinds.specs.Kinds.{region_shape, child_shapes, children_shapes, items_tree}
 use Rattle.tt_kinds.specs.declared.region_kind.RegionKind.{RegionKind}
 use Rattle.tt_kinds.specs.declared.region_kind.RegionKind.TheVariants.{ReStatic}
-use Rattle.tt_kinds.specs.declared.parts.Node.{Node}
-use Rattle.tt_kinds.specs.declared.parts.Node.TheVariants as node
-use Rattle.tt_kinds.specs.declared.parts.List.{List as StoredList}
-use Rattle.tt_kinds.specs.declared.parts.List.TheVariants as list
-use Rattle.tt_kinds.specs.declared.parts.ListSort.{ListSort}
-use Rattle.tt_kinds.specs.declared.parts.ListSort.TheVariants as sort
 use Rattle.tt_kinds.specs.declared.parts.Child.{Child}
 use Rattle.tt_kinds.specs.declared.parts.Child.TheVariants as child
-use Rattle.tt_kinds.proofs.EqualityLaws.{both}
+use Rattle.std.proofs.lemmas.Option.{same_Some}
 use Rattle.tt_interner.proofs.Fill.{Distinguishes, tree_table}
 use Rattle.tt_interner.proofs.InfoLaws.{AreParts-append}
 use Rattle.unify.specs.Substitution.{Assignment, GivesTypes, IsType, assign, assign_all}
@@ -45,13 +40,18 @@ type_root (tree.binder vs t) h = absurd h
 
 -- what a child is whose tree has this table
 abbrev pub table_sort : Option Table → ChildSort
-table_sort None = a_region
-table_sort (Some TypeLists) = a_list sort.Tys
-table_sort (Some ConstLists) = a_list sort.Consts
-table_sort (Some ArgLists) = a_list sort.Args
-table_sort (Some PatternLists) = a_list sort.Pats
-table_sort (Some ExistentialLists) = a_list sort.Existentials
-table_sort (Some t) = a_node t
+table_sort (Some table.Types) = a_stored terms_of.Types
+table_sort (Some table.Consts) = a_stored terms_of.Consts
+table_sort (Some table.Patterns) = a_stored terms_of.Patterns
+table_sort (Some table.Predicates) = a_stored terms_of.Predicates
+table_sort (Some table.Existentials) = a_stored terms_of.Existentials
+table_sort (Some table.ClauseLists) = a_stored terms_of.ClauseLists
+table_sort (Some table.TypeLists) = a_stored terms_of.TypeLists
+table_sort (Some table.ConstLists) = a_stored terms_of.ConstLists
+table_sort (Some table.ArgLists) = a_stored terms_of.ArgLists
+table_sort (Some table.PatternLists) = a_stored terms_of.PatternLists
+table_sort (Some table.ExistentialLists) = a_stored terms_of.ExistentialLists
+table_sort _ = a_region
 
 -- what the first of the trees is, as a child
 abbrev pub first_sort : Forest Depth → ChildSort
@@ -63,55 +63,52 @@ abbrev pub second_sort : Forest Depth → ChildSort
 second_sort tree.none = absent
 second_sort (tree.also t ts) = first_sort ts
 
--- the child is no stored list of clauses, which as a term would have the same tree
-abbrev pub is_told : Child → Bool
-is_told (child.List (list.Clauses l)) = false
-is_told c = true
-
--- no child stands behind a place without one
+-- no child comes after a place without one
 abbrev pub are_told : Child → Child → Bool
 are_told child.Absent child.Absent = true
 are_told child.Absent d = false
-are_told c d = is_told c && is_told d
+are_told c d = true
 
-node_back : (n : Node) → table_sort (Some (node_table n)) ≡ a_node (node_table n)
-node_back (node.Ty t) = refl
-node_back _ = refl
+stored_back : (t : TermTable) → table_sort (Some (term_table t)) ≡ a_stored t
+stored_back terms_of.Types = refl
+stored_back terms_of.Consts = refl
+stored_back terms_of.Patterns = refl
+stored_back terms_of.Predicates = refl
+stored_back terms_of.Existentials = refl
+stored_back terms_of.ClauseLists = refl
+stored_back terms_of.TypeLists = refl
+stored_back terms_of.ConstLists = refl
+stored_back terms_of.ArgLists = refl
+stored_back terms_of.PatternLists = refl
+stored_back terms_of.ExistentialLists = refl
 
-list_back : (l : StoredList) → is_told (child.List l) ≡ true → table_sort (Some (list_table l)) ≡ a_list (list_sort l)
-list_back (list.Tys l) h = refl
-list_back (list.Consts l) h = refl
-list_back (list.Args l) h = refl
-list_back (list.Pats l) h = refl
-list_back (list.Existentials l) h = refl
-list_back (list.Clauses l) h = absurd (false≢true h)
+-- tables with one tree at the root are one
+pub table_one : (t u : TermTable) → term_table t ≡ term_table u → t ≡ u
+table_one t u e = (let same : a_stored t ≡ a_stored u = sym (stored_back t) ∙ ap (λ x. table_sort (Some x)) e ∙ stored_back u in cc)
 
 region_root : (m : Meaning) (r : RegionKind) → tree_table (fill m (region_shape r)) ≡ None
 unfolding fill
 region_root m ReStatic = refl
 region_root m _ = refl
 
--- the sort of the list that has this table
-abbrev items_sort : Option Table → ListSort
-items_sort (Some TypeLists) = sort.Tys
-items_sort (Some ConstLists) = sort.Consts
-items_sort (Some ArgLists) = sort.Args
-items_sort (Some PatternLists) = sort.Pats
-items_sort (Some ExistentialLists) = sort.Existentials
-items_sort _ = sort.Clauses
-
 module _ (ρ : Assignment) where
-  items_root : (s : ListSort) (ts : Forest Depth) → items_sort (tree_table (assign ρ (items_tree s ts))) ≡ s
-  items_root sort.Tys ts = refl
-  items_root sort.Consts ts = refl
-  items_root sort.Args ts = refl
-  items_root sort.Pats ts = refl
-  items_root sort.Existentials ts = refl
-  items_root sort.Clauses ts = refl
+  items_root : (s : TermTable) (ts : Forest Depth) → tree_table (assign ρ (items_tree s ts)) ≡ Some (term_table s)
+  items_root terms_of.Types ts = refl
+  items_root terms_of.Consts ts = refl
+  items_root terms_of.Patterns ts = refl
+  items_root terms_of.Predicates ts = refl
+  items_root terms_of.Existentials ts = refl
+  items_root terms_of.ClauseLists ts = refl
+  items_root terms_of.TypeLists ts = refl
+  items_root terms_of.ConstLists ts = refl
+  items_root terms_of.ArgLists ts = refl
+  items_root terms_of.PatternLists ts = refl
+  items_root terms_of.ExistentialLists ts = refl
 
-  -- two lists that become one tree are of one sort
-  pub items_sorts : (s s' : ListSort) (ts us : Forest Depth) → assign ρ (items_tree s ts) ≡ assign ρ (items_tree s' us) → s ≡ s'
-  items_sorts s s' ts us h = sym (items_root s ts) ∙ ap (λ t. items_sort (tree_table t)) h ∙ items_root s' us
+  -- two lists that become one tree are of one table
+  pub items_tables : (s s' : TermTable) (ts us : Forest Depth) → assign ρ (items_tree s ts) ≡ assign ρ (items_tree s' us) → s ≡ s'
+  items_tables s s' ts us h =
+      table_one s s' (same_Some (term_table s) (term_table s') (sym (items_root s ts) ∙ ap tree_table h ∙ items_root s' us))
 
   -- an assignment leaves a region as it is
   pub region_left : (m : Meaning) (r : RegionKind) → assign ρ (fill m (region_shape r)) ≡ fill m (region_shape r)
@@ -120,21 +117,15 @@ module _ (ρ : Assignment) where
   region_left m _ = refl
 
   -- an item has one tree
-  item_count : (m : Meaning) (s : ListSort) (c : Child) (ss : Shapes) → IsItem s (child_sort c)
+  item_count : (m : Meaning) (s : TermTable) (c : Child) (ss : Shapes) → IsItem s (child_sort c)
       → count_trees (assign_all ρ (fill_all m (append (child_shapes c) ss))) ≡ suc (count_trees (assign_all ρ (fill_all m ss)))
   unfolding fill
-  item_count m sort.Tys child.Absent ss h = absurd h
-  item_count m sort.Consts child.Absent ss h = absurd h
-  item_count m sort.Args child.Absent ss h = absurd h
-  item_count m sort.Pats child.Absent ss h = absurd h
-  item_count m sort.Existentials child.Absent ss h = absurd h
-  item_count m sort.Clauses child.Absent ss h = absurd h
+  item_count m s child.Absent ss h = absurd h
   item_count m s (child.Region r) ss h = refl
-  item_count m s (child.Node n) ss h = refl
-  item_count m s (child.List l) ss h = refl
+  item_count m s (child.Stored n) ss h = refl
 
   -- a list has a tree for each item
-  pub items_count : (m : Meaning) (s : ListSort) (cs : List Child) → All (λ c. IsItem s (child_sort c)) cs
+  pub items_count : (m : Meaning) (s : TermTable) (cs : List Child) → All (λ c. IsItem s (child_sort c)) cs
       → count_trees (assign_all ρ (fill_all m (children_shapes cs))) ≡ length cs
   unfolding fill
   items_count m s [] fit = refl
@@ -162,12 +153,11 @@ module _ (ρ : Assignment) (types : GivesTypes ρ) where
     stored_root t n h = table_kept (m t n) ∙ d.roots t n h
 
     -- what an assignment of types makes of a child tells the child's sort
-    pub child_told : (c : Child) → is_told c ≡ true → AreParts size (child_shapes c) → first_sort (assign_all ρ (fill_all m (child_shapes c))) ≡ child_sort c
+    pub child_told : (c : Child) → AreParts size (child_shapes c) → first_sort (assign_all ρ (fill_all m (child_shapes c))) ≡ child_sort c
     unfolding fill
-    child_told child.Absent told h = refl
-    child_told (child.Region r) told h = ap table_sort (table_kept (fill m (region_shape r)) ∙ region_root m r)
-    child_told (child.Node n) told h = ap table_sort (stored_root (node_table n) (node_number n) h.0) ∙ node_back n
-    child_told (child.List l) told h = ap table_sort (stored_root (list_table l) (list_number l) h.0) ∙ list_back l told
+    child_told child.Absent h = refl
+    child_told (child.Region r) h = ap table_sort (table_kept (fill m (region_shape r)) ∙ region_root m r)
+    child_told (child.Stored k) h = ap table_sort (stored_root (term_table k.table) k.number h.0) ∙ stored_back k.table
 
     -- and what it makes of two children tells both sorts
     pub parts_told : (b c : Child) → are_told b c ≡ true → AreParts size (append (child_shapes b) (child_shapes c))
@@ -177,6 +167,5 @@ module _ (ρ : Assignment) (types : GivesTypes ρ) where
     parts_told child.Absent child.Absent told h = (refl, refl)
     parts_told child.Absent c told h = absurd (false≢true told)
     parts_told b c told h =
-        let each = both (is_told b) (is_told c) told in
         let parts = AreParts-append size (child_shapes b) (child_shapes c) h in
-        (child_told b each.0 parts.0, child_told c each.1 parts.1)
+        (child_told b parts.0, child_told c parts.1)

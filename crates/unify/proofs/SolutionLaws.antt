@@ -2,16 +2,13 @@
 use Rattle.std.proofs.Common.{◌≡◌, ℕ, List, Option, Some, Result, Ok, Err, IfOk, IfErr, sym, subst, ap, ◌∙◌}
 use Rattle.tt_kinds.specs.Tree as tree
 use Rattle.tt_kinds.specs.Tree.{Depth, Tree}
-use Rattle.tt_kinds.specs.Shape as shape
-use Rattle.tt_kinds.specs.Shape.{Meaning, fill, fill_all}
-use Rattle.tt_kinds.specs.Parts.{node_table, node_number, list_table, list_number}
-use Rattle.tt_kinds.specs.declared.parts.Node.TheVariants as node
-use Rattle.tt_kinds.specs.Kinds.{ty_shape, node_shape, list_shape, child_shapes}
-use Rattle.tt_kinds.specs.Handle.{Ty}
-use Rattle.tt_kinds.specs.declared.parts.Node.{Node}
-use Rattle.tt_kinds.specs.declared.parts.List.{List as StoredList}
+use Rattle.tt_kinds.specs.Shape.{Meaning, fill}
+use Rattle.tt_kinds.specs.TermTable.{term_table}
+use Rattle.tt_kinds.specs.declared.handle.AnyHandle.{AnyHandle}
+use Rattle.tt_kinds.specs.declared.table.TermTable.TheVariants as terms_of
+use Rattle.tt_kinds.specs.Kinds.{ty_shape, handle_shape}
+use Rattle.tt_kinds.specs.Handle.{Ty, any_handle}
 use Rattle.tt_kinds.specs.declared.parts.Child.TheVariants as child
-use Rattle.tt_interner.specs.Rows.{meaning}
 use Rattle.tt_interner.specs.Owned.{AreOwned}
 use Rattle.tt_interner.specs.Stored.{Terms, Extends}
 use Rattle.tt_fold.specs.Steps.{tree_in}
@@ -88,35 +85,21 @@ module _ (a : Terms) (xs : List (Option Ty)) where
 
 -- two types that become one tree, as children
 pub types_met : (ρ : Assignment) (a : Terms) (l r : Ty) → EquatesTypes ρ a l r
-    → assign_all ρ (child_trees a (child.Node (node.Ty l))) ≡ assign_all ρ (child_trees a (child.Node (node.Ty r)))
+    → assign_all ρ (child_trees a (child.Stored (any_handle terms_of.Types l))) ≡ assign_all ρ (child_trees a (child.Stored (any_handle terms_of.Types r)))
 unfolding fill
 types_met ρ a l r met = ap (λ t. tree.also t tree.none) met
 
 -- a term's and a list's tree, by the handle
-pub node_tree : (m : Meaning) (n : Node) (t : Tree Depth) → m (node_table n) (node_number n) ≡ t → fill m (node_shape n) ≡ t
+pub stored_tree : (m : Meaning) (h : AnyHandle) (t : Tree Depth) → m (term_table h.table) h.number ≡ t → fill m (handle_shape h) ≡ t
 unfolding fill
-node_tree m n t is = is
-
--- the tree of a stored list is what its table and its number mean
-pub list_tree : (m : Meaning) (l : StoredList) (t : Tree Depth) → m (list_table l) (list_number l) ≡ t → fill m (list_shape l) ≡ t
-unfolding fill
-list_tree m l t is = is
+stored_tree m h t is = is
 
 module _ (ρ : Assignment) (a : Terms) (p : Pair) where
-  -- a pair of terms that is made equal
-  pub nodes_met : (l r : Node) → p.left ≡ child.Node l → p.right ≡ child.Node r → Equates ρ a p
-      → assign ρ (tree_in a.rows (node_shape l)) ≡ assign ρ (tree_in a.rows (node_shape r))
+  -- a pair of terms or lists that is made equal
+  pub stored_met : (l r : AnyHandle) → p.left ≡ child.Stored l → p.right ≡ child.Stored r → Equates ρ a p
+      → assign ρ (tree_in a.rows (handle_shape l)) ≡ assign ρ (tree_in a.rows (handle_shape r))
   unfolding fill
-  nodes_met l r is is' met =
-      let both : assign_all ρ (child_trees a (child.Node l)) ≡ assign_all ρ (child_trees a (child.Node r)) =
+  stored_met l r is is' met =
+      let both : assign_all ρ (child_trees a (child.Stored l)) ≡ assign_all ρ (child_trees a (child.Stored r)) =
       sym (ap (λ c. assign_all ρ (child_trees a c)) is) ∙ met ∙ ap (λ c. assign_all ρ (child_trees a c)) is' in
-      ap (first_tree (tree_in a.rows (node_shape l))) both
-
-  -- a pair of lists that is made equal
-  pub lists_met : (l r : StoredList) → child_shapes p.left ≡ shape.also (list_shape l) shape.none → child_shapes p.right ≡ shape.also (list_shape r) shape.none → Equates ρ a p
-      → assign ρ (tree_in a.rows (list_shape l)) ≡ assign ρ (tree_in a.rows (list_shape r))
-  unfolding fill
-  lists_met l r is is' met =
-      let both : assign_all ρ (fill_all (meaning a.rows) (shape.also (list_shape l) shape.none)) ≡ assign_all ρ (fill_all (meaning a.rows) (shape.also (list_shape r) shape.none)) =
-      sym (ap (λ ss. assign_all ρ (fill_all (meaning a.rows) ss)) is) ∙ met ∙ ap (λ ss. assign_all ρ (fill_all (meaning a.rows) ss)) is' in
-      ap (first_tree (tree_in a.rows (list_shape l))) both
+      ap (first_tree (tree_in a.rows (handle_shape l))) both

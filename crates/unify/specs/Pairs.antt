@@ -1,9 +1,8 @@
 -- Pairs of children that are to be made equal.
-use Rattle.std.specs.Prelude.{◌≡◌, ◌≢◌, List, [], ◌∷◌, length, Option, ⊤}
-use Rattle.tt_kinds.specs.Parts.{node_table}
+use Rattle.std.specs.Prelude.{◌≡◌, List, [], ◌∷◌, length, Option, IsFalse, ⊤}
+use Rattle.tt_kinds.specs.TermTable.{has_items}
 use Rattle.tt_kinds.specs.declared.parts.Child.{Child}
 use Rattle.tt_kinds.specs.declared.parts.Child.TheVariants as child
-use Rattle.tt_kinds.specs.declared.table.Table.TheVariants.{ClauseLists}
 use Rattle.tt_kinds.specs.Label.{record_label, pair_record}
 use Rattle.tt_kinds.specs.Shape as shape
 use Rattle.tt_kinds.specs.Shape.{Shape, append, fill_all}
@@ -21,10 +20,9 @@ use Rattle.unify.specs.declared.pairs.Pair.{Pair}
 abbrev pub pair_shape : Pair → Shape
 pair_shape p = shape.node (record_label pair_record) (append (child_shapes p.left) (child_shapes p.right))
 
--- the child is no list, nor a list of clauses: if it is a stored term, it has a kind
+-- the child is no list: if it is a stored term, it has a kind
 abbrev pub IsNoList : Child → Type 0
-IsNoList (child.List l) = ⊥
-IsNoList (child.Node n) = node_table n ≢ ClauseLists
+IsNoList (child.Stored h) = IsFalse (has_items h.table)
 IsNoList _ = ⊤
 
 -- the assignment makes the two types equal

@@ -1,14 +1,11 @@
 //! Pairs of children that are to be made equal, and the pairs of their parts.
 
-ghost use Rattle.std.specs.Prelude.{◌≢◌, ◌<◌, ◌≡◌, IfErr, MatchOption, OnOk};
-ghost use Rattle.tt_kinds.specs.declared.table.Table.TheVariants as table;
+ghost use Rattle.std.specs.Prelude.{◌≢◌, ◌<◌, ◌≡◌, IfErr, IsFalse, IsTrue, MatchOption, OnOk};
+ghost use Rattle.tt_kinds.specs.declared.table.TermTable.TheVariants as terms_of;
 ghost use Rattle.tt_kinds.specs.declared.parts.Child.TheVariants as child_of;
-ghost use Rattle.tt_kinds.specs.declared.parts.Node.{Node};
-ghost use Rattle.tt_kinds.specs.declared.parts.Node.TheVariants as node_of;
-ghost use Rattle.tt_kinds.specs.Handle.{Ty};
-ghost use Rattle.tt_kinds.specs.Kinds.{child_shapes, list_shape, node_shape};
-ghost use Rattle.tt_kinds.specs.Shape.{also, none};
-ghost use Rattle.tt_kinds.specs.Parts.{list_number, list_table, node_number, node_table};
+ghost use Rattle.tt_kinds.specs.Handle.{any_handle};
+ghost use Rattle.tt_kinds.specs.Kinds.{handle_shape};
+ghost use Rattle.tt_kinds.specs.TermTable.{has_items, term_table};
 ghost use Rattle.tt_interner.specs.Owned.{AreOwned};
 ghost use Rattle.tt_interner.specs.Rows.{size};
 ghost use Rattle.tt_fold.specs.Steps.{tree_in};
@@ -17,7 +14,7 @@ ghost use Rattle.unify.specs.Pairs.{pair_shape, EquatesAll, IsNoList};
 ghost use Rattle.unify.specs.Substitution.{assign, Assignment, GivesTypes, LeavesRoot};
 
 use crate::fault::Fault;
-use type_terms::{Child, Interner, List, Node, Ty};
+use type_terms::{AnyHandle, Child, Interner, TermTable, Ty};
 
 /// Two children of terms that are to be made equal.
 #[derive(Clone, Copy)]
@@ -31,22 +28,23 @@ pub struct Pair {
 pub fn push_parts(
     cx: &Interner,
     pairs: &mut Vec<Pair>,
-    left: Node,
-    right: Node,
+    left: AnyHandle,
+    right: AnyHandle,
 ) -> Result<(), Fault>
-    requires left { node_number left < size cx.now.rows (node_table left) }
-    requires left_kind { node_table left ≢ table.ClauseLists }
-    requires right { node_number right < size cx.now.rows (node_table right) }
-    requires right_kind { node_table right ≢ table.ClauseLists }
+    requires left { left.number < size cx.now.rows (term_table left.table) }
+    requires left_kind { IsFalse (has_items left.table) }
+    requires right { right.number < size cx.now.rows (term_table right.table) }
+    requires right_kind { IsFalse (has_items right.table) }
     requires pairs { AreOwned pair_shape cx.now pairs.old.items }
     ensures owned { OnOk result (AreOwned pair_shape cx.now pairs.new.items) }
     ensures general { OnOk result ((ρ : Assignment)
-        → assign ρ (tree_in cx.now.rows (node_shape left)) ≡ assign ρ (tree_in cx.now.rows (node_shape right))
+        → assign ρ (tree_in cx.now.rows (handle_shape left)) ≡ assign ρ (tree_in cx.now.rows (handle_shape right))
         → EquatesAll ρ cx.now pairs.old.items → EquatesAll ρ cx.now pairs.new.items) }
     ensures err { IfErr result (λ fault. IsOccurs fault → ⊥) }
     ensures mismatch { IfErr result (λ fault. IsMismatch fault → (ρ : Assignment) → GivesTypes ρ
-        → LeavesRoot ρ (tree_in cx.now.rows (node_shape left)) → LeavesRoot ρ (tree_in cx.now.rows (node_shape right))
-        → assign ρ (tree_in cx.now.rows (node_shape left)) ≢ assign ρ (tree_in cx.now.rows (node_shape right))) }
+        → LeavesRoot ρ (tree_in cx.now.rows (handle_shape left))
+        → LeavesRoot ρ (tree_in cx.now.rows (handle_shape right))
+        → assign ρ (tree_in cx.now.rows (handle_shape left)) ≢ assign ρ (tree_in cx.now.rows (handle_shape right))) }
 {
     // Kinds that differ have different trees.
     cx.are_rows();
@@ -72,22 +70,24 @@ pub fn push_parts(
 pub fn push_items(
     cx: &Interner,
     pairs: &mut Vec<Pair>,
-    left: List,
-    right: List,
+    left: AnyHandle,
+    right: AnyHandle,
 ) -> Result<(), Fault>
-    requires left { list_number left < size cx.now.rows (list_table left) }
-    requires right { list_number right < size cx.now.rows (list_table right) }
+    requires left { left.number < size cx.now.rows (term_table left.table) }
+    requires left_items { IsTrue (has_items left.table) }
+    requires right { right.number < size cx.now.rows (term_table right.table) }
+    requires right_items { IsTrue (has_items right.table) }
     requires pairs { AreOwned pair_shape cx.now pairs.old.items }
     ensures owned { OnOk result (AreOwned pair_shape cx.now pairs.new.items) }
     ensures general { OnOk result ((ρ : Assignment)
-        → assign ρ (tree_in cx.now.rows (list_shape left)) ≡ assign ρ (tree_in cx.now.rows (list_shape right))
+        → assign ρ (tree_in cx.now.rows (handle_shape left)) ≡ assign ρ (tree_in cx.now.rows (handle_shape right))
         → EquatesAll ρ cx.now pairs.old.items → EquatesAll ρ cx.now pairs.new.items) }
     ensures err { IfErr result (λ fault. IsOccurs fault → ⊥) }
     ensures mismatch { IfErr result (λ fault. IsMismatch fault → (ρ : Assignment)
-        → assign ρ (tree_in cx.now.rows (list_shape left)) ≢ assign ρ (tree_in cx.now.rows (list_shape right))) }
+        → assign ρ (tree_in cx.now.rows (handle_shape left)) ≢ assign ρ (tree_in cx.now.rows (handle_shape right))) }
 {
     let (len, other) = (cx.list_len(left), cx.list_len(right));
-    if left.sort() != right.sort() || len != other {
+    if left.table != right.table || len != other {
         return Err(Fault::Mismatch);
     }
     // The first item is pushed last, so it is compared first.
@@ -101,37 +101,41 @@ pub fn push_items(
 }
 
 /// Returns the list that the child is, if it is one. A list of clauses counts as a list.
-pub fn as_list(child: Child) -> Option<List>
-    ensures { MatchOption result (IsNoList child) (λ list. child_shapes child ≡ also (list_shape list) none) }
+pub fn as_list(child: Child) -> Option<AnyHandle>
+    ensures { MatchOption result (IsNoList child)
+        (λ list. (child ≡ child_of.Stored list) × IsTrue (has_items list.table)) }
 {
     match child {
-        Child::List(list) => Some(list),
-        Child::Node(node) => match node {
-            Node::Clauses(clauses) => Some(List::Clauses(clauses)),
-            _ => None,
-        },
+        Child::Stored(handle) => {
+            if handle.table.has_items() {
+                Some(handle)
+            } else {
+                None
+            }
+        }
         _ => None,
     }
 }
 
-/// Returns the term that the child is, if it is one.
-pub fn as_node(child: Child) -> Option<Node>
-    ensures { MatchOption result ((node : Node) → child ≢ child_of.Node node) (λ node. child ≡ child_of.Node node) }
+/// Returns the stored term or list that the child is, if it is one.
+pub fn as_stored(child: Child) -> Option<AnyHandle>
+    ensures { MatchOption result ((handle : AnyHandle) → child ≢ child_of.Stored handle)
+        (λ handle. child ≡ child_of.Stored handle) }
 {
     match child {
-        Child::Node(node) => Some(node),
+        Child::Stored(handle) => Some(handle),
         _ => None,
     }
 }
 
 /// Returns the two types that the terms are, if both are types.
-pub fn as_types(left: Node, right: Node) -> Option<(Ty, Ty)>
-    ensures { MatchOption result ((t u : Ty) → left ≡ node_of.Ty t → right ≢ node_of.Ty u)
-        (λ types. (left ≡ node_of.Ty types.0) × (right ≡ node_of.Ty types.1)) }
+pub fn as_types(left: AnyHandle, right: AnyHandle) -> Option<(Ty, Ty)>
+    ensures { MatchOption result ((left.table ≡ terms_of.Types) × (right.table ≡ terms_of.Types) → ⊥)
+        (λ types. (left ≡ any_handle terms_of.Types types.0) × (right ≡ any_handle terms_of.Types types.1)) }
 {
-    match left {
-        Node::Ty(left) => match right {
-            Node::Ty(right) => Some((left, right)),
+    match left.table {
+        TermTable::Types => match right.table {
+            TermTable::Types => Some((left.typed(), right.typed())),
             _ => None,
         },
         _ => None,

@@ -18,10 +18,10 @@ ghost use Rattle.unify.specs.Substitution.{IsIdempotent, IsMostGeneral, Solves};
 use crate::bindings::Bindings;
 use crate::fault::Fault;
 use crate::ground::{list_nonground, nonground_variables, replaced_in};
-use crate::pairs::{Pair, as_list, as_node, as_types, push_items, push_parts};
+use crate::pairs::{Pair, as_list, as_stored, as_types, push_items, push_parts};
 use crate::resolver::{binding_of, is_variable, occurs_in, resolved, variable_of};
 use indexmap::IndexMap;
-use type_terms::{Child, Interner, Node, Refusal, Ty, TyVid, TypeVisitableExt};
+use type_terms::{Interner, Refusal, Ty, TyVid, TypeVisitableExt};
 
 // The greatest number of pairs that a call compares.
 const MOST_PAIRS: u32 = u32::MAX;
@@ -149,7 +149,7 @@ fn unify_types(
         return bound(cx, entries, nonground, variable, left);
     }
     if compared.insert(Compared { left, right }, ())?.is_none() {
-        push_parts(cx, pairs, Node::Ty(left), Node::Ty(right))?;
+        push_parts(cx, pairs, left.any(), right.any())?;
     }
     Ok(entries)
 }
@@ -184,10 +184,10 @@ fn unify_terms(
 {
     // A handle's tree tells its table: so children of other sorts don't become equal.
     cx.are_rows();
-    let Some(left) = as_node(pair.left) else {
+    let Some(left) = as_stored(pair.left) else {
         return Err(Fault::Mismatch);
     };
-    let Some(right) = as_node(pair.right) else {
+    let Some(right) = as_stored(pair.right) else {
         return Err(Fault::Mismatch);
     };
     if let Some(types) = as_types(left, right) {
@@ -277,8 +277,8 @@ fn unified(
     let mut compared = IndexMap::new(cx.allocator());
     let mut pairs = Vec::new(cx.allocator());
     pairs.push(Pair {
-        left: Child::Node(Node::Ty(left)),
-        right: Child::Node(Node::Ty(right)),
+        left: left.child(),
+        right: right.child(),
     })?;
     for _ in 0..MOST_PAIRS {
         let Some(pair) = pairs.pop() else {

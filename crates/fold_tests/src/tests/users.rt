@@ -19,9 +19,9 @@ use test_terms::{
 use type_terms::{
     AsPredicate, Binder, BoundVarKinds, Clause, ClauseKind, Clauses, ClonesTree, Const, Core,
     ErrorGuaranteed, FallibleTypeFolder, GenericArg, Handle, HasHook, InternedKind, Interner,
-    IsWalked, Kind, List, Next, Node, Owned, Predicate, PredicateKind, Refusal, Region, RegionKind,
-    Step, Term, Ty, TyKind, TypeFoldable, TypeFolder, TypeSuperFoldable, TypeSuperVisitable,
-    TypeVisitable, TypeVisitor, Tys, visit_kind, visit_list, visit_node,
+    IsWalked, Kind, Next, Owned, Predicate, PredicateKind, Refusal, Region, RegionKind, Step, Term,
+    Ty, TyKind, TypeFoldable, TypeFolder, TypeSuperFoldable, TypeSuperVisitable, TypeVisitable,
+    TypeVisitor, Tys, visit_kind, visit_stored,
 };
 
 // Counts the regions outside of errors, and breaks at an error.
@@ -136,9 +136,9 @@ fn regions_in_rows(
         return Err(NOT_OWNED);
     }
     let mut visitor = RegionCount { count: 0 };
-    let mut outcome = visit_node(cx, &mut visitor, Node::Ty(ty));
+    let mut outcome = visit_stored(cx, &mut visitor, ty.any());
     if outcome.is_continue() {
-        outcome = visit_list(cx, &mut visitor, List::Tys(list));
+        outcome = visit_stored(cx, &mut visitor, list.any());
     }
     if outcome.is_continue() {
         outcome = visit_kind(cx, &mut visitor, &Kind::Ty(kind));

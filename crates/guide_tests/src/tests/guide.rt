@@ -9,7 +9,7 @@ use super::holds_anew;
 use std::alloc::{AllocError, AllocFailed};
 use std::ops::ControlFlow;
 use type_terms::prelude::*;
-use type_terms::{Child, Node, Parts};
+use type_terms::{AnyHandle, Child, Parts};
 
 // Why this checker gives up.
 #[derive(Clone, Copy, Debug, PartialEq, Eq, Drop)]
@@ -382,11 +382,11 @@ fn is_folded(cx: &mut Interner) -> Result<bool, Fault> {
 }
 
 // Returns the children of both terms, if the terms differ in nothing else.
-fn paired_parts(cx: &Interner, left: Node, right: Node) -> Option<(Parts, Parts)> {
-    if left.table() != right.table() || matches!(left, Node::Clauses(_)) {
+fn paired_parts(cx: &Interner, left: AnyHandle, right: AnyHandle) -> Option<(Parts, Parts)> {
+    if left.table != right.table || left.table.has_items() {
         return None;
     }
-    if !cx.owns_node(left) || !cx.owns_node(right) {
+    if !cx.owns_any(left) || !cx.owns_any(right) {
         return None;
     }
     let (left, right) = (cx.node_kind(left), cx.node_kind(right));
@@ -408,7 +408,7 @@ fn agree(cx: &Interner, left: Child, right: Child, limit: u32) -> Option<bool> {
     }
     match (left, right) {
         (Child::Region(_), Child::Region(_)) => Some(true),
-        (Child::Node(left), Child::Node(right)) => {
+        (Child::Stored(left), Child::Stored(right)) if !left.table.has_items() => {
             let Some((own, other)) = paired_parts(cx, left, right) else {
                 return Some(false);
             };
@@ -417,8 +417,8 @@ fn agree(cx: &Interner, left: Child, right: Child, limit: u32) -> Option<bool> {
                     && agree(cx, own.second, other.second, limit - 1)?,
             )
         }
-        (Child::List(left), Child::List(right)) => {
-            if !cx.owns_list(left) || !cx.owns_list(right) {
+        (Child::Stored(left), Child::Stored(right)) => {
+            if left.table != right.table || !cx.owns_any(left) || !cx.owns_any(right) {
                 return Some(false);
             }
             let len = cx.list_len(left);
@@ -439,12 +439,7 @@ fn agree(cx: &Interner, left: Child, right: Child, limit: u32) -> Option<bool> {
 
 // Returns whether the types differ in regions alone.
 fn types_agree(cx: &Interner, left: Ty, right: Ty, limit: u32) -> Option<bool> {
-    agree(
-        cx,
-        Child::Node(Node::Ty(left)),
-        Child::Node(Node::Ty(right)),
-        limit,
-    )
+    agree(cx, left.child(), right.child(), limit)
 }
 
 // Returns `(&'?N R, u32)`, for the region variable N and an integer R.

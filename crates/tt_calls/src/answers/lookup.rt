@@ -1,14 +1,14 @@
 //! Earlier answers, by their positions.
 
-ghost use Rattle.std.specs.Prelude.{◌≡◌, ◌≤◌, IfOk, IfErr, None, List, [], ◌∷◌, take, length, MatchOption};
+ghost use Rattle.std.specs.Prelude.{◌≡◌, ◌≤◌, IfOk, IfErr, None, List, take, length, MatchOption};
 ghost use Rattle.tt_index.specs.declared.refusal.Refusal.TheVariants.{NoSuchAnswer};
-ghost use Rattle.tt_kinds.specs.Shape.{stored, also, none};
+ghost use Rattle.tt_kinds.specs.Shape.{stored};
 ghost use Rattle.tt_interner.specs.Rows.{Row};
 ghost use Rattle.tt_interner.specs.Stored.{Terms};
 ghost use Rattle.tt_calls.specs.CallForm.{one, a_term, terms_at};
 ghost use Rattle.tt_calls.specs.Told.{told_all, AreOwnedAnswers};
 ghost use Rattle.tt_calls.specs.Means.{term_at, id_at};
-ghost use Rattle.tt_calls.specs.Build.{IsAnswerAt, IsIdAt, HasNoId, GivesPart, GivesParts, GivesItems, FillsItems};
+ghost use Rattle.tt_calls.specs.Build.{IsAnswerAt, IsIdAt, HasNoId, GivesPart, GivesItems, FillsItems};
 
 use crate::answer::Answer;
 use crate::answers::term_handle::TermHandle;
@@ -76,25 +76,6 @@ pub fn handle_at<T: TermHandle>(earlier: &[Answer], position: u32) -> Result<T, 
         Some(handle) => Ok(handle),
         None => Err(Refusal::NoSuchAnswer),
     }
-}
-
-/// Returns the handles at two positions. Refused as [`handle_at`] is.
-pub fn handle_pair<A: TermHandle, B: TermHandle>(
-    earlier: &[Answer],
-    first: u32,
-    second: u32,
-) -> Result<(A, B), Refusal>
-    ensures cause { IfErr result (λ e. e ≡ NoSuchAnswer) }
-    ensures parts { (terms : Terms) → AreOwnedAnswers terms.rows earlier.now
-        → GivesParts terms
-        (told_all terms.rows earlier.now)
-        (one (a_term A.table first) ∷ one (a_term B.table second) ∷ [])
-        (λ pair. also (stored A.table (A.number pair.0)) (also (stored B.table (B.number pair.1)) none))
-        result }
-{
-    let first = handle_at(earlier, first)?;
-    let second = handle_at(earlier, second)?;
-    Ok((first, second))
 }
 
 /// Writes the handles at the positions to the first places. Refused as [`handle_at`] is.

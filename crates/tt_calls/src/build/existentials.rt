@@ -1,10 +1,10 @@
 //! Building trait objects.
 
-ghost use Rattle.std.specs.Prelude.{◌≤◌, map, take, length, IfErr};
+ghost use Rattle.std.specs.Prelude.{◌≡◌, ◌≤◌, ℕ, map, take, length, IfErr};
 ghost use Rattle.tt_kinds.specs.Shape.{item_shapes};
-ghost use Rattle.tt_kinds.specs.Kinds.{existential_form};
-ghost use Rattle.tt_kinds.specs.Kinds.{ty_kind_shape, existential_shape, existentials_shape};
-ghost use Rattle.tt_interner.specs.Stored.{Extends};
+ghost use Rattle.tt_kinds.specs.Kinds.{existential_form, record_shape, ty_kind_shape, existential_shape};
+ghost use Rattle.tt_kinds.specs.Kinds.{existentials_shape, existential_kind_shape};
+ghost use Rattle.tt_interner.specs.Stored.{Terms, Extends};
 ghost use Rattle.tt_calls.specs.CallForm.{
   existential_call_form,
   existential_record,
@@ -19,20 +19,31 @@ ghost use Rattle.tt_calls.specs.CallForm.{
 };
 ghost use Rattle.tt_calls.specs.Told.{told_all, AreOwnedAnswers};
 ghost use Rattle.tt_calls.specs.Means.{number_at, tree_at};
-ghost use Rattle.tt_calls.specs.Build.{GivesPlaced, FillsPlaced, GivesRecord, GivesKind};
-ghost use Rattle.tt_calls.specs.Room.{RecordNeedsRoom, ExistentialNeedsRoom, ExistentialsNeedRoom, FormNeedsRoom};
+ghost use Rattle.tt_calls.specs.Build.{GivesPlaced, FillsPlaced, GivesKind};
+ghost use Rattle.tt_calls.specs.Room.{ExistentialNeedsRoom, ExistentialsNeedRoom, FormNeedsRoom};
+ghost use Rattle.tt_calls.specs.Parts.{
+  any_ids,
+  named_parts,
+  record_text,
+  existential_whole,
+  built_record,
+  built_shape,
+  AreOfSorts,
+  IsInnerLabel,
+  IsKindForm,
+};
 
 use crate::answer::Answer;
 use crate::answers::ids::{def_at, trait_at};
-use crate::build::lists::{MOST_IN_PLACE, build_arg_list};
-use crate::build::predicates::args_and_term;
-use crate::build::regions::{build_region, build_vars};
+use crate::build::lists::MOST_IN_PLACE;
+use crate::build::parts::{Built, PartCall, PartsCall, build};
+use crate::build::regions::build_region;
 use crate::call::{ExistentialCall, ExistentialKindCall, RegionCall};
 use tt_index::Refusal;
 use tt_interner::Interner;
 use tt_kinds::{
     Binder, BoundExistentialPredicates, ExistentialPredicate, ExistentialProjection,
-    ExistentialTraitRef, PolyExistentialPredicate, TyKind,
+    ExistentialTraitRef, Parts, PolyExistentialPredicate, TyKind,
 };
 
 /// Returns the kind of a trait object.
@@ -153,47 +164,70 @@ fn build_existential(
         (told_all cx.old.rows earlier.now)
         (existential_call_form (number_at (told_all cx.old.rows earlier.now)) call.now)) }
 {
-    let kind = existential_kind(cx, earlier, &call.kind)?;
-    let vars = build_vars(cx, earlier, call.vars.as_slice())?;
-    cx.mk_existential(Binder::bind_with_vars(kind, vars))
+    let vars = Some(call.vars.as_slice());
+    match build(cx, earlier, existential_parts(&call.kind), vars, None) {
+        Ok(built) => cx.mk_existential(bound_kind(earlier, call, &built)),
+        Err(refusal) => Err(refusal),
+    }
 }
 
-// Returns the kind of the existential predicate.
-fn existential_kind(
-    cx: &mut Interner,
-    earlier: &[Answer],
-    call: &ExistentialKindCall,
-) -> Result<ExistentialPredicate, Refusal>
-    requires { AreOwnedAnswers cx.old.rows earlier.now }
-    ensures extends { Extends cx.old cx.new }
-    ensures kind { GivesRecord cx.new
-        (told_all cx.old.rows earlier.now)
-        (existential_record (number_at (told_all cx.old.rows earlier.now)) call.now)
-        existential_form
-        result }
-    ensures room { IfErr result
-        (RecordNeedsRoom cx.new.rows
-        (told_all cx.old.rows earlier.now)
-        (existential_record (number_at (told_all cx.old.rows earlier.now)) call.now)) }
+// Returns what takes the places of the existential predicate's children.
+fn existential_parts<'a>(call: &'a ExistentialKindCall) -> PartsCall<'a>
+    ensures parts { (ids : ℕ → ℕ) → named_parts result ≡ (existential_record ids call.now).parts }
+    ensures text { (ids : ℕ → ℕ) → record_text (existential_record ids call.now).label ≡ None }
 {
     match call {
-        ExistentialKindCall::Trait(position, args) => {
-            let args = build_arg_list(cx, earlier, args.as_slice())?;
-            Ok(ExistentialPredicate::Trait(ExistentialTraitRef {
-                def_id: trait_at(earlier, *position),
-                args,
-            }))
+        ExistentialKindCall::Trait(_, args) => PartsCall::One(PartCall::Args(args.as_slice())),
+        ExistentialKindCall::Projection(_, args, term) => {
+            PartsCall::Two(PartCall::Args(args.as_slice()), PartCall::of_term(*term))
         }
-        ExistentialKindCall::Projection(position, args, term) => {
-            let pair = args_and_term(cx, earlier, args.as_slice(), *term)?;
-            Ok(ExistentialPredicate::Projection(ExistentialProjection {
+        ExistentialKindCall::AutoTrait(_) => PartsCall::None,
+    }
+}
+
+// Returns the kind of the existential predicate under its binder, made of what was built.
+fn bound_kind(
+    earlier: &[Answer],
+    call: &ExistentialCall,
+    built: &Built,
+) -> Binder<ExistentialPredicate>
+    requires { AreOfSorts (existential_record any_ids call.now.kind).parts built.now.parts }
+    ensures kind { (terms : Terms) → existential_kind_shape result
+        ≡ built_shape (existential_whole (number_at (told_all terms.rows earlier.now)) call.now) built.now }
+    ensures form { (ids : ℕ → ℕ) → IsKindForm (existential_whole ids call.now) }
+{
+    let kind = existential_kind(earlier, &call.kind, built);
+    Binder::bind_with_vars(kind, built.vars)
+}
+
+// Returns the kind of the existential predicate, made of what was built.
+fn existential_kind(
+    earlier: &[Answer],
+    call: &ExistentialKindCall,
+    built: &Built,
+) -> ExistentialPredicate
+    requires { AreOfSorts (existential_record any_ids call.now).parts built.now.parts }
+    ensures kind { (terms : Terms) → record_shape (existential_form result)
+        ≡ built_record (existential_record (number_at (told_all terms.rows earlier.now)) call.now) built.now }
+    ensures label { (ids : ℕ → ℕ) → IsInnerLabel (existential_record ids call.now).label }
+{
+    let Parts { first, second } = built.parts;
+    match call {
+        ExistentialKindCall::Trait(position, _) => {
+            ExistentialPredicate::Trait(ExistentialTraitRef {
+                def_id: trait_at(earlier, *position),
+                args: first.handle(),
+            })
+        }
+        ExistentialKindCall::Projection(position, _, _) => {
+            ExistentialPredicate::Projection(ExistentialProjection {
                 def_id: def_at(earlier, *position),
-                args: pair.0,
-                term: pair.1,
-            }))
+                args: first.handle(),
+                term: second.term(),
+            })
         }
         ExistentialKindCall::AutoTrait(position) => {
-            Ok(ExistentialPredicate::AutoTrait(trait_at(earlier, *position)))
+            ExistentialPredicate::AutoTrait(trait_at(earlier, *position))
         }
     }
 }

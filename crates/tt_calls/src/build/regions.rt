@@ -9,7 +9,6 @@ ghost use Rattle.tt_kinds.specs.Label.{
 };
 ghost use Rattle.tt_kinds.specs.Bound.{depth};
 ghost use Rattle.tt_kinds.specs.Shape.{IsGreatest};
-ghost use Rattle.tt_kinds.specs.Shape as shape;
 ghost use Rattle.tt_interner.specs.Rows.{Row, text_row, IsNew};
 ghost use Rattle.tt_interner.specs.Stored.{Extends};
 ghost use Rattle.tt_calls.specs.CallForm.{
@@ -36,21 +35,14 @@ ghost use Rattle.tt_calls.specs.Build.{
 ghost use Rattle.tt_calls.specs.Room.{IsRefusalForRoom, LacksText, VarsNeedRoom};
 
 use crate::answer::Answer;
-use crate::answers::ids::{def_at, number_at};
-use crate::answers::lookup::{handle_at, handle_pair};
-use crate::build::existentials::dynamic_kind;
-use crate::build::lists::{MOST_IN_PLACE, build_arg_list, build_tys};
-use crate::call::{
-    AliasCall, ArgCall, BoundTyKindCall, ItemCall, RegionCall, RegionNameCall, TyCall, VariableCall,
-};
-use tt_index::{BoundVar, Mutability, Refusal, UniverseIndex};
+use crate::answers::ids::def_at;
+use crate::build::lists::MOST_IN_PLACE;
+use crate::call::{BoundTyKindCall, RegionCall, RegionNameCall, VariableCall};
+use tt_index::{BoundVar, Refusal, UniverseIndex};
 use tt_interner::Interner;
 use tt_kinds::{
-    AdtId, AliasTy, AliasTyKind, Binder, BoundRegion, BoundRegionKind, BoundTy, BoundTyKind,
-    BoundVarIndexKind, BoundVarKinds, BoundVariableKind, ClosureId, Const, CoroutineClosureId,
-    CoroutineId, EarlyParamRegion, FnHeader, FnSigTys, ForeignId, FreeTyAliasId, GenericArgs,
-    InherentAssocTyId, LateParamRegion, OpaqueTyId, ParamTy, Pat, Placeholder, Region, RegionKind,
-    Table, TraitAssocTyId, Ty, TyKind, UnsafeBinderInner,
+    BoundRegion, BoundRegionKind, BoundTyKind, BoundVarIndexKind, BoundVarKinds, BoundVariableKind,
+    EarlyParamRegion, LateParamRegion, Placeholder, Region, RegionKind,
 };
 
 /// Returns the name of a bound type.

@@ -1,71 +1,42 @@
 //! Building types.
 
-ghost use Rattle.std.specs.Prelude.{◌≡◌, IfErr, map, length, [], ◌∷◌, List, OnErr};
-ghost use Rattle.tt_index.specs.declared.refusal.Refusal.TheVariants.{NoSuchAnswer};
-ghost use Rattle.tt_kinds.specs.Tree as tree;
-ghost use Rattle.tt_kinds.specs.Label.{
-  type_sort,
-  type_variable,
-  type_label,
-  placeholder_type,
-  foreign_type,
-  ref_type,
-  array_type,
-  pat_type,
-  unsafe_binder_type,
-  unsafe_binder_record,
-  fn_ptr_type,
-  fn_sig_tys_record,
-};
-ghost use Rattle.tt_kinds.specs.Bound.{depth};
+ghost use Rattle.std.specs.Prelude.{◌≡◌, ℕ, List, IfErr};
+ghost use Rattle.tt_kinds.specs.Label.{type_label};
 ghost use Rattle.tt_kinds.specs.Shape as shape;
 ghost use Rattle.tt_kinds.specs.Kinds.{ty_kind_shape, args_shape};
-ghost use Rattle.tt_interner.specs.Rows.{Row, text_row, IsNew};
-ghost use Rattle.tt_interner.specs.Stored.{Terms, Extends};
+ghost use Rattle.tt_interner.specs.Rows.{Row};
+ghost use Rattle.tt_interner.specs.Stored.{Extends};
 ghost use Rattle.tt_calls.specs.declared.call.Call.TheVariants.{Ty as BuildsTy};
-ghost use Rattle.tt_calls.specs.CallForm.{
-  region_text,
-  ty_ids,
-  ty_call_form,
-  alias_call_kind,
-  param,
-  plain,
-  under,
-  one,
-  a_region,
-  a_term,
-  a_list,
-  terms_at,
-  args_part,
-  item_type,
-  ty_called,
-  variable_kind,
-};
-ghost use Rattle.tt_calls.specs.Told.{Told, told_all, AreOwnedAnswers};
+ghost use Rattle.tt_calls.specs.CallForm.{ty_ids, ty_call_form, alias_call_kind, item_type};
+ghost use Rattle.tt_calls.specs.Told.{told_all, AreOwnedAnswers};
 ghost use Rattle.tt_calls.specs.Means.{number_at, AreTerms};
-ghost use Rattle.tt_calls.specs.Build.{
-  GivesKind,
-  MayAnswerCall,
+ghost use Rattle.tt_calls.specs.Build.{GivesKind, MayAnswerCall};
+ghost use Rattle.tt_calls.specs.Room.{FormNeedsRoom};
+ghost use Rattle.tt_calls.specs.Parts.{
+  any_ids,
+  named_parts,
+  named_vars,
+  named_text,
+  form_children,
+  form_vars,
+  form_text,
+  built_shape,
+  AreOfSorts,
+  IsKindForm,
 };
-ghost use Rattle.tt_calls.specs.Room.{IsRefusalForRoom, LacksText, FormNeedsRoom};
 
 use crate::answer::Answer;
-use crate::answers::ids::{def_at, number_at};
-use crate::answers::lookup::{handle_at, handle_pair};
+use crate::answers::ids::number_at;
 use crate::build::existentials::dynamic_kind;
-use crate::build::lists::{MOST_IN_PLACE, build_arg_list, build_tys};
-use crate::build::regions::{build_region, build_vars, ty_name};
-use crate::call::{
-    AliasCall, ArgCall, BoundTyKindCall, ItemCall, RegionCall, RegionNameCall, TyCall, VariableCall,
-};
-use tt_index::{BoundVar, Mutability, Refusal, UniverseIndex};
+use crate::build::parts::{Built, PartCall, PartsCall, build};
+use crate::build::regions::ty_name;
+use crate::call::{AliasCall, ItemCall, TyCall, VariableCall};
+use tt_index::Refusal;
 use tt_interner::Interner;
 use tt_kinds::{
-    AdtId, AliasTy, AliasTyKind, Binder, BoundRegion, BoundRegionKind, BoundTy, BoundTyKind,
-    BoundVarIndexKind, BoundVarKinds, BoundVariableKind, ClosureId, Const, CoroutineClosureId,
-    CoroutineId, EarlyParamRegion, FnHeader, FnSigTys, ForeignId, FreeTyAliasId, FunctionId,
-    GenericArgs, InherentAssocTyId, LateParamRegion, OpaqueTyId, ParamTy, Pat, Placeholder, Region,
-    RegionKind, Table, TraitAssocTyId, Ty, TyKind, UnsafeBinderInner,
+    AdtId, AliasTy, AliasTyKind, Binder, BoundTy, ClosureId, CoroutineClosureId, CoroutineId,
+    FnSigTys, ForeignId, FreeTyAliasId, FunctionId, GenericArgs, InherentAssocTyId, OpaqueTyId,
+    ParamTy, Parts, Placeholder, TraitAssocTyId, TyKind, UnsafeBinderInner,
 };
 
 /// Builds the type of the call from the earlier answers. The ids that the call names have to be there;
@@ -104,210 +75,116 @@ fn ty_kind(cx: &mut Interner, earlier: &[Answer], call: &TyCall) -> Result<TyKin
         (told_all cx.old.rows earlier.now)
         (ty_call_form (number_at (told_all cx.old.rows earlier.now)) call.now)) }
 {
-    match call {
-        TyCall::Bool => Ok(TyKind::Bool),
-        TyCall::Char => Ok(TyKind::Char),
-        TyCall::Int(width) => Ok(TyKind::Int(*width)),
-        TyCall::Uint(width) => Ok(TyKind::Uint(*width)),
-        TyCall::Float(width) => Ok(TyKind::Float(*width)),
-        TyCall::Foreign(position) => Ok(foreign_kind(earlier, *position)),
-        TyCall::Str => Ok(TyKind::Str),
-        TyCall::Never => Ok(TyKind::Never),
-        TyCall::Param { index, name } => param_kind(cx, *index, name.as_str()),
-        TyCall::Bound(index, var, name) => Ok(bound_kind(earlier, *index, *var, *name)),
-        TyCall::Placeholder(universe, var, name) => {
-            Ok(placeholder_kind(earlier, *universe, *var, *name))
-        }
-        TyCall::Infer(infer) => Ok(TyKind::Infer(*infer)),
-        TyCall::Error(token) => Ok(TyKind::Error(*token)),
-        TyCall::Ref(region, ty, mutability) => ref_kind(cx, earlier, region, *ty, *mutability),
-        TyCall::RawPtr(ty, mutability) => Ok(TyKind::RawPtr(handle_at(earlier, *ty)?, *mutability)),
-        TyCall::Slice(ty) => Ok(TyKind::Slice(handle_at(earlier, *ty)?)),
-        TyCall::Array(ty, length) => array_kind(earlier, *ty, *length),
-        TyCall::Tuple(tys) => Ok(TyKind::Tuple(build_tys(cx, earlier, tys.as_slice())?)),
-        TyCall::FnPtr {
-            vars,
-            inputs_and_output: tys,
-            header,
-        } => fn_ptr_kind(cx, earlier, vars.as_slice(), tys.as_slice(), *header),
-        TyCall::Item(item, args) => item_kind(cx, earlier, *item, args.as_slice()),
-        TyCall::Dynamic(existentials, region) => {
-            dynamic_kind(cx, earlier, existentials.as_slice(), region)
-        }
-        TyCall::Pat(ty, pat) => pat_kind(earlier, *ty, *pat),
-        TyCall::UnsafeBinder { vars, ty } => unsafe_binder_kind(cx, earlier, vars.as_slice(), *ty),
+    if let TyCall::Dynamic(existentials, region) = call {
+        return dynamic_kind(cx, earlier, existentials.as_slice(), region);
+    }
+    match build(cx, earlier, ty_parts(call), ty_vars(call), ty_text(call)) {
+        Ok(built) => Ok(built_kind(earlier, call, &built)),
+        Err(refusal) => Err(refusal),
     }
 }
 
-// Returns the kind of a foreign type.
-fn foreign_kind(earlier: &[Answer], position: u32) -> TyKind
-    ensures { (rows : List Row) → ty_kind_shape result
-        ≡ shape.term (type_label (foreign_type (number_at (told_all rows earlier.now) position))) shape.none }
+// Returns what takes the places of the type's children. A trait object is built by `dynamic_kind`.
+fn ty_parts<'a>(call: &'a TyCall) -> PartsCall<'a>
+    ensures { (ids : ℕ → ℕ) → named_parts result ≡ form_children (ty_call_form ids call.now) }
 {
-    TyKind::Foreign(ForeignId::from_number(number_at(earlier, position)))
+    match call {
+        TyCall::Ref(region, ty, _) => PartsCall::Two(PartCall::Region(region), PartCall::Ty(*ty)),
+        TyCall::RawPtr(ty, _) | TyCall::Slice(ty) | TyCall::UnsafeBinder { ty, .. } => {
+            PartsCall::One(PartCall::Ty(*ty))
+        }
+        TyCall::Array(ty, length) => PartsCall::Two(PartCall::Ty(*ty), PartCall::Const(*length)),
+        TyCall::Pat(ty, pat) => PartsCall::Two(PartCall::Ty(*ty), PartCall::Pat(*pat)),
+        TyCall::Tuple(tys) => PartsCall::One(PartCall::Tys(tys.as_slice())),
+        TyCall::FnPtr {
+            inputs_and_output,
+            ..
+        } => PartsCall::One(PartCall::Tys(inputs_and_output.as_slice())),
+        TyCall::Item(_, args) => PartsCall::One(PartCall::Args(args.as_slice())),
+        _ => PartsCall::None,
+    }
 }
 
-// Returns the kind of a bound type.
-fn bound_kind(
-    earlier: &[Answer],
-    index: BoundVarIndexKind,
-    var: BoundVar,
-    name: BoundTyKindCall,
-) -> TyKind
-    ensures { (rows : List Row) → ty_kind_shape result
-        ≡ shape.bound type_sort
-        (depth index)
-        (record { var = var; kind = type_variable (ty_called (number_at (told_all rows earlier.now)) name) }) }
+// Returns the variables of the binder around the children, if there is one.
+fn ty_vars<'a>(call: &'a TyCall) -> Option<&'a [VariableCall]>
+    ensures { (ids : ℕ → ℕ) → named_vars ids result ≡ form_vars (ty_call_form ids call.now) }
 {
-    let kind = ty_name(earlier, name);
-    TyKind::Bound(index, BoundTy { var, kind })
+    match call {
+        TyCall::FnPtr { vars, .. } | TyCall::UnsafeBinder { vars, .. } => Some(vars.as_slice()),
+        _ => None,
+    }
 }
 
-// Returns the kind of a placeholder type.
-fn placeholder_kind(
-    earlier: &[Answer],
-    universe: UniverseIndex,
-    var: BoundVar,
-    name: BoundTyKindCall,
-) -> TyKind
-    ensures { (rows : List Row) → ty_kind_shape result
-        ≡ shape.term
-        (type_label (placeholder_type (record {
-          universe = universe;
-          bound = record { var = var; kind = ty_called (number_at (told_all rows earlier.now)) name };
-        })))
-        shape.none }
+// Returns the type's name, if it is a parameter.
+fn ty_text<'a>(call: &'a TyCall) -> Option<&'a str>
+    ensures { (ids : ℕ → ℕ) → named_text result ≡ form_text (ty_call_form ids call.now) }
 {
-    let kind = ty_name(earlier, name);
-    let bound = BoundTy { var, kind };
-    TyKind::Placeholder(Placeholder { universe, bound })
+    match call {
+        TyCall::Param { name, .. } => Some(name.as_str()),
+        _ => None,
+    }
 }
 
-// Returns the kind of a parameter.
-fn param_kind(cx: &mut Interner, index: u32, name: &str) -> Result<TyKind, Refusal>
-    ensures extends { Extends cx.old cx.new }
-    ensures kind { (earlier : List Told) → GivesKind cx.new earlier
-        (param type_sort index name.now)
-        ty_kind_shape
-        result }
-    ensures named { OnErr result (IsNew (text_row name.now) cx.new.rows) }
+// Returns the kind of the type, made of what was built.
+fn built_kind(earlier: &[Answer], call: &TyCall, built: &Built) -> TyKind
+    requires form { IsKindForm (ty_call_form any_ids call.now) }
+    requires sorts { AreOfSorts (form_children (ty_call_form any_ids call.now)) built.now.parts }
+    ensures kind { (rows : List Row) → ty_kind_shape result
+        ≡ built_shape (ty_call_form (number_at (told_all rows earlier.now)) call.now) built.now }
+    ensures form { (ids : ℕ → ℕ) → IsKindForm (ty_call_form ids call.now) }
 {
-    let name = cx.symbol(name)?;
-    Ok(TyKind::Param(ParamTy { index, name }))
-}
-
-// Returns the kind of a reference.
-fn ref_kind(
-    cx: &mut Interner,
-    earlier: &[Answer],
-    region: &RegionCall,
-    position: u32,
-    mutability: Mutability,
-) -> Result<TyKind, Refusal>
-    requires { AreOwnedAnswers cx.old.rows earlier.now }
-    ensures extends { Extends cx.old cx.new }
-    ensures kind { GivesKind cx.new
-        (told_all cx.old.rows earlier.now)
-        (plain
-        (type_label (ref_type mutability))
-        (one (a_region region.now) ∷ one (a_term Table.Types position) ∷ []))
-        ty_kind_shape
-        result }
-    ensures room { IfErr result (λ e. IsRefusalForRoom e → LacksText cx.new.rows (region_text region.now)) }
-{
-    let ty = handle_at(earlier, position)?;
-    let region = build_region(cx, earlier, region)?;
-    Ok(TyKind::Ref(region, ty, mutability))
-}
-
-// Returns the kind of an array.
-fn array_kind(earlier: &[Answer], ty: u32, length: u32) -> Result<TyKind, Refusal>
-    ensures cause { IfErr result (λ e. e ≡ NoSuchAnswer) }
-    ensures kind { (terms : Terms) → AreOwnedAnswers terms.rows earlier.now
-        → GivesKind terms
-        (told_all terms.rows earlier.now)
-        (plain (type_label array_type) (one (a_term Table.Types ty) ∷ one (a_term Table.Consts length) ∷ []))
-        ty_kind_shape
-        result }
-{
-    let pair = handle_pair::<Ty, Const>(earlier, ty, length)?;
-    Ok(TyKind::Array(pair.0, pair.1))
-}
-
-// Returns the kind of a type that a pattern restricts.
-fn pat_kind(earlier: &[Answer], ty: u32, pat: u32) -> Result<TyKind, Refusal>
-    ensures cause { IfErr result (λ e. e ≡ NoSuchAnswer) }
-    ensures kind { (terms : Terms) → AreOwnedAnswers terms.rows earlier.now
-        → GivesKind terms
-        (told_all terms.rows earlier.now)
-        (plain (type_label pat_type) (one (a_term Table.Types ty) ∷ one (a_term Table.Patterns pat) ∷ []))
-        ty_kind_shape
-        result }
-{
-    let pair = handle_pair::<Ty, Pat>(earlier, ty, pat)?;
-    Ok(TyKind::Pat(pair.0, pair.1))
-}
-
-// Returns the kind of a type under a binder.
-fn unsafe_binder_kind(
-    cx: &mut Interner,
-    earlier: &[Answer],
-    vars: &[VariableCall],
-    ty: u32,
-) -> Result<TyKind, Refusal>
-    requires { AreOwnedAnswers cx.old.rows earlier.now }
-    ensures extends { Extends cx.old cx.new }
-    ensures kind { GivesKind cx.new
-        (told_all cx.old.rows earlier.now)
-        (under
-        (type_label unsafe_binder_type)
-        (map (variable_kind (number_at (told_all cx.old.rows earlier.now))) vars.now)
-        unsafe_binder_record
-        (one (a_term Table.Types ty) ∷ []))
-        ty_kind_shape
-        result }
-    ensures room { IfErr result
-        (FormNeedsRoom cx.new.rows
-        (told_all cx.old.rows earlier.now)
-        (under
-        (type_label unsafe_binder_type)
-        (map (variable_kind (number_at (told_all cx.old.rows earlier.now))) vars.now)
-        unsafe_binder_record
-        (one (a_term Table.Types ty) ∷ []))) }
-{
-    let ty = handle_at::<Ty>(earlier, ty)?;
-    let vars = build_vars(cx, earlier, vars)?;
-    let binder = Binder::bind_with_vars(ty, vars);
-    Ok(TyKind::UnsafeBinder(UnsafeBinderInner::from(binder)))
-}
-
-// Returns the kind of an item's type.
-fn item_kind(
-    cx: &mut Interner,
-    earlier: &[Answer],
-    item: ItemCall,
-    args: &[ArgCall],
-) -> Result<TyKind, Refusal>
-    requires { AreOwnedAnswers cx.old.rows earlier.now }
-    ensures extends { Extends cx.old cx.new }
-    ensures kind { GivesKind cx.new
-        (told_all cx.old.rows earlier.now)
-        (plain (type_label (item_type (number_at (told_all cx.old.rows earlier.now)) item)) (args_part args.now ∷ []))
-        ty_kind_shape
-        result }
-    ensures room { IfErr result
-        (FormNeedsRoom cx.new.rows
-        (told_all cx.old.rows earlier.now)
-        (plain
-        (type_label (item_type (number_at (told_all cx.old.rows earlier.now)) item))
-        (args_part args.now ∷ []))) }
-{
-    let args = build_arg_list(cx, earlier, args)?;
-    Ok(type_of_item(earlier, item, args))
+    let Parts { first, second } = built.parts;
+    match call {
+        TyCall::Bool => TyKind::Bool,
+        TyCall::Char => TyKind::Char,
+        TyCall::Int(width) => TyKind::Int(*width),
+        TyCall::Uint(width) => TyKind::Uint(*width),
+        TyCall::Float(width) => TyKind::Float(*width),
+        TyCall::Foreign(position) => {
+            TyKind::Foreign(ForeignId::from_number(number_at(earlier, *position)))
+        }
+        TyCall::Str => TyKind::Str,
+        TyCall::Never => TyKind::Never,
+        TyCall::Param { index, .. } => TyKind::Param(ParamTy {
+            index: *index,
+            name: built.name,
+        }),
+        TyCall::Bound(index, var, name) => {
+            let kind = ty_name(earlier, *name);
+            TyKind::Bound(*index, BoundTy { var: *var, kind })
+        }
+        TyCall::Placeholder(universe, var, name) => {
+            let kind = ty_name(earlier, *name);
+            let bound = BoundTy { var: *var, kind };
+            TyKind::Placeholder(Placeholder {
+                universe: *universe,
+                bound,
+            })
+        }
+        TyCall::Infer(infer) => TyKind::Infer(*infer),
+        TyCall::Error(token) => TyKind::Error(*token),
+        TyCall::Ref(_, _, mutability) => TyKind::Ref(first.region(), second.handle(), *mutability),
+        TyCall::RawPtr(_, mutability) => TyKind::RawPtr(first.handle(), *mutability),
+        TyCall::Slice(_) => TyKind::Slice(first.handle()),
+        TyCall::Array(_, _) => TyKind::Array(first.handle(), second.handle()),
+        TyCall::Tuple(_) => TyKind::Tuple(first.handle()),
+        TyCall::FnPtr { header, .. } => {
+            let inputs_and_output = first.handle();
+            let types = Binder::bind_with_vars(FnSigTys { inputs_and_output }, built.vars);
+            TyKind::FnPtr(types, *header)
+        }
+        TyCall::Item(item, _) => item_kind(earlier, *item, first.handle()),
+        TyCall::Dynamic(_, _) => unreachable!(),
+        TyCall::Pat(_, _) => TyKind::Pat(first.handle(), second.handle()),
+        TyCall::UnsafeBinder { .. } => {
+            let binder = Binder::bind_with_vars(first.handle(), built.vars);
+            TyKind::UnsafeBinder(UnsafeBinderInner::from(binder))
+        }
+    }
 }
 
 // Returns the kind of an item's type with these arguments.
-fn type_of_item(earlier: &[Answer], item: ItemCall, args: GenericArgs) -> TyKind
+fn item_kind(earlier: &[Answer], item: ItemCall, args: GenericArgs) -> TyKind
     ensures { (rows : List Row) → ty_kind_shape result
         ≡ shape.term
         (type_label (item_type (number_at (told_all rows earlier.now)) item))
@@ -358,38 +235,4 @@ fn alias_kind(earlier: &[Answer], alias: AliasCall) -> AliasTyKind
             def_id: FreeTyAliasId::from_number(number_at(earlier, position)),
         },
     }
-}
-
-// Returns the kind of a function pointer.
-fn fn_ptr_kind(
-    cx: &mut Interner,
-    earlier: &[Answer],
-    vars: &[VariableCall],
-    inputs_and_output: &[u32],
-    header: FnHeader,
-) -> Result<TyKind, Refusal>
-    requires { AreOwnedAnswers cx.old.rows earlier.now }
-    ensures extends { Extends cx.old cx.new }
-    ensures kind { GivesKind cx.new
-        (told_all cx.old.rows earlier.now)
-        (under
-        (type_label (fn_ptr_type header))
-        (map (variable_kind (number_at (told_all cx.old.rows earlier.now))) vars.now)
-        fn_sig_tys_record
-        (a_list Table.TypeLists (terms_at Table.Types inputs_and_output.now) ∷ []))
-        ty_kind_shape
-        result }
-    ensures room { IfErr result
-        (FormNeedsRoom cx.new.rows
-        (told_all cx.old.rows earlier.now)
-        (under
-        (type_label (fn_ptr_type header))
-        (map (variable_kind (number_at (told_all cx.old.rows earlier.now))) vars.now)
-        fn_sig_tys_record
-        (a_list Table.TypeLists (terms_at Table.Types inputs_and_output.now) ∷ []))) }
-{
-    let inputs_and_output = build_tys(cx, earlier, inputs_and_output)?;
-    let vars = build_vars(cx, earlier, vars)?;
-    let types = Binder::bind_with_vars(FnSigTys { inputs_and_output }, vars);
-    Ok(TyKind::FnPtr(types, header))
 }

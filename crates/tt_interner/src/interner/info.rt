@@ -24,7 +24,7 @@ impl Interner {
 
     // Returns the cached information of a row of a table of terms or lists.
     #[inline(always)]
-    fn info_in(&self, table: Table, number: u32) -> FlagComputation
+    pub(crate) fn info_in(&self, table: Table, number: u32) -> FlagComputation
         requires within { number < size self.now.rows table }
         requires kept { IsTrue (keeps_info table) }
         ensures { IsInfo result (meaning self.now.rows table number) }

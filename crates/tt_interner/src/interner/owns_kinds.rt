@@ -2,7 +2,7 @@
 
 ghost use Rattle.std.specs.Prelude.{◌<◌, ◌↔◌, IsTrue};
 ghost use Rattle.tt_kinds.specs.Shape.{AreParts, HasParts, IsPart};
-ghost use Rattle.tt_kinds.specs.Parts.{node_table, node_number, list_table, list_number};
+ghost use Rattle.tt_kinds.specs.TermTable.{term_table};
 ghost use Rattle.tt_kinds.specs.Bare.{bare_const_shape, bare_pattern_shape, bare_ty_shape};
 ghost use Rattle.tt_kinds.specs.Values.{fn_sig_shape};
 ghost use Rattle.tt_kinds.specs.Kinds.{
@@ -23,37 +23,16 @@ ghost use Rattle.tt_interner.specs.Existentials.{HaveParts};
 
 use super::Interner;
 use tt_kinds::{
-    Binder, BoundVarKinds, Child, ClauseKind, ConstKind, ExistentialPredicate, FnSig, Kind, List,
-    Node, Parts, PatternKind, PredicateKind, TyKind,
+    AnyHandle, Binder, BoundVarKinds, Child, ClauseKind, ConstKind, ExistentialPredicate, FnSig,
+    Kind, Parts, PatternKind, PredicateKind, TyKind,
 };
 
 impl Interner {
-    /// Returns whether `node` names a stored term of this interner.
-    pub fn owns_node(&self, node: Node) -> bool
-        ensures { IsTrue result ↔ (node_number node < size self.now.rows (node_table node)) }
+    /// Returns whether `handle` names a stored term or list of this interner.
+    pub fn owns_any(&self, handle: AnyHandle) -> bool
+        ensures { IsTrue result ↔ (handle.number < size self.now.rows (term_table handle.table)) }
     {
-        match node {
-            Node::Ty(ty) => self.owns(ty),
-            Node::Const(constant) => self.owns(constant),
-            Node::Pat(pat) => self.owns(pat),
-            Node::Predicate(predicate) => self.owns(predicate),
-            Node::Existential(predicate) => self.owns(predicate),
-            Node::Clauses(clauses) => self.owns(clauses),
-        }
-    }
-
-    /// Returns whether `list` names a stored list of this interner.
-    pub fn owns_list(&self, list: List) -> bool
-        ensures { IsTrue result ↔ (list_number list < size self.now.rows (list_table list)) }
-    {
-        match list {
-            List::Tys(tys) => self.owns(tys),
-            List::Consts(consts) => self.owns(consts),
-            List::Args(args) => self.owns(args),
-            List::Pats(pats) => self.owns(pats),
-            List::Existentials(predicates) => self.owns(predicates),
-            List::Clauses(clauses) => self.owns(clauses),
-        }
+        (handle.number as usize) < self.table_len(handle.table.table())
     }
 
     /// Returns whether the child, if there is one, is of this interner.
@@ -63,8 +42,7 @@ impl Interner {
         match child {
             Child::Absent => true,
             Child::Region(region) => self.owns_region(region),
-            Child::Node(node) => self.owns_node(*node),
-            Child::List(list) => self.owns_list(*list),
+            Child::Stored(stored) => self.owns_any(*stored),
         }
     }
 

@@ -1,30 +1,23 @@
 //! Access to a child by its sort.
 
 ghost use Rattle.std.specs.Prelude.{◌≡◌, ◌↔◌, IsTrue};
-ghost use Rattle.tt_kinds.specs.Parts.{a_region, a_node, a_list, child_sort, IsTermSort, term_child};
-ghost use Rattle.tt_kinds.specs.declared.parts.Node.TheVariants as node;
-ghost use Rattle.tt_kinds.specs.declared.parts.List.TheVariants as list;
+ghost use Rattle.tt_kinds.specs.Parts.{a_region, a_stored, child_in, child_sort, IsTermSort, term_child};
 ghost use Rattle.tt_kinds.specs.declared.parts.Child.TheVariants as child;
 
-use crate::handle::{
-    BoundExistentialPredicates, Clauses, Const, Consts, GenericArgs, Pat, PatList,
-    PolyExistentialPredicate, Predicate, Ty, Tys,
-};
-use crate::parts::{Child, List, ListSort, Node};
+use crate::handle::{Const, Handle, IsTermRow, Ty};
+use crate::parts::Child;
 use crate::region_kind::Region;
-use crate::table::Table;
+use crate::table::TermTable;
 use crate::term::{Term, TermKind};
 
 impl Child {
-    /// Returns whether the other child is of the same sort: absent, a region, a term of the same table, or a list of
-    /// the same sort.
+    /// Returns whether the other child is of the same sort: absent, a region, or a row of the same table.
     pub fn is_like(&self, other: &Child) -> bool
         ensures { IsTrue result ↔ (child_sort other.now ≡ child_sort self.now) }
     {
         match (self, other) {
             (Child::Absent, Child::Absent) | (Child::Region(_), Child::Region(_)) => true,
-            (Child::Node(node), Child::Node(other)) => node.table() == other.table(),
-            (Child::List(list), Child::List(other)) => list.sort() == other.sort(),
+            (Child::Stored(stored), Child::Stored(other)) => stored.table == other.table,
             _ => false,
         }
     }
@@ -44,128 +37,14 @@ impl Child {
         }
     }
 
-    /// Returns the type.
+    /// Returns the handle of the row.
     #[inline(always)]
-    pub fn ty(self) -> Ty
-        requires { child_sort self ≡ a_node Table.Types }
-        ensures { self ≡ child.Node (node.Ty result) }
+    pub fn handle<K: IsTermRow>(self) -> Handle<K>
+        requires { child_sort self ≡ a_stored K.IsTermRow.TERM_TABLE }
+        ensures { self ≡ child_in K.IsTermRow.TERM_TABLE result }
     {
         match self {
-            Child::Node(Node::Ty(ty)) => ty,
-            _ => unreachable!(),
-        }
-    }
-
-    /// Returns the constant.
-    #[inline(always)]
-    pub fn constant(self) -> Const
-        requires { child_sort self ≡ a_node Table.Consts }
-        ensures { self ≡ child.Node (node.Const result) }
-    {
-        match self {
-            Child::Node(Node::Const(constant)) => constant,
-            _ => unreachable!(),
-        }
-    }
-
-    /// Returns the pattern.
-    pub fn pat(self) -> Pat
-        requires { child_sort self ≡ a_node Table.Patterns }
-        ensures { self ≡ child.Node (node.Pat result) }
-    {
-        match self {
-            Child::Node(Node::Pat(pat)) => pat,
-            _ => unreachable!(),
-        }
-    }
-
-    /// Returns the predicate.
-    pub fn predicate(self) -> Predicate
-        requires { child_sort self ≡ a_node Table.Predicates }
-        ensures { self ≡ child.Node (node.Predicate result) }
-    {
-        match self {
-            Child::Node(Node::Predicate(predicate)) => predicate,
-            _ => unreachable!(),
-        }
-    }
-
-    /// Returns the existential predicate.
-    pub fn existential(self) -> PolyExistentialPredicate
-        requires { child_sort self ≡ a_node Table.Existentials }
-        ensures { self ≡ child.Node (node.Existential result) }
-    {
-        match self {
-            Child::Node(Node::Existential(existential)) => existential,
-            _ => unreachable!(),
-        }
-    }
-
-    /// Returns the list of types.
-    #[inline(always)]
-    pub fn tys(self) -> Tys
-        requires { child_sort self ≡ a_list ListSort.Tys }
-        ensures { self ≡ child.List (list.Tys result) }
-    {
-        match self {
-            Child::List(List::Tys(tys)) => tys,
-            _ => unreachable!(),
-        }
-    }
-
-    /// Returns the list of constants.
-    #[inline(always)]
-    pub fn consts(self) -> Consts
-        requires { child_sort self ≡ a_list ListSort.Consts }
-        ensures { self ≡ child.List (list.Consts result) }
-    {
-        match self {
-            Child::List(List::Consts(consts)) => consts,
-            _ => unreachable!(),
-        }
-    }
-
-    /// Returns the list of generic arguments.
-    #[inline(always)]
-    pub fn args(self) -> GenericArgs
-        requires { child_sort self ≡ a_list ListSort.Args }
-        ensures { self ≡ child.List (list.Args result) }
-    {
-        match self {
-            Child::List(List::Args(args)) => args,
-            _ => unreachable!(),
-        }
-    }
-
-    /// Returns the list of patterns.
-    pub fn pats(self) -> PatList
-        requires { child_sort self ≡ a_list ListSort.Pats }
-        ensures { self ≡ child.List (list.Pats result) }
-    {
-        match self {
-            Child::List(List::Pats(pats)) => pats,
-            _ => unreachable!(),
-        }
-    }
-
-    /// Returns the list of existential predicates.
-    pub fn existentials(self) -> BoundExistentialPredicates
-        requires { child_sort self ≡ a_list ListSort.Existentials }
-        ensures { self ≡ child.List (list.Existentials result) }
-    {
-        match self {
-            Child::List(List::Existentials(existentials)) => existentials,
-            _ => unreachable!(),
-        }
-    }
-
-    /// Returns the list of clauses.
-    pub fn clauses(self) -> Clauses
-        requires { child_sort self ≡ a_list ListSort.Clauses }
-        ensures { self ≡ child.List (list.Clauses result) }
-    {
-        match self {
-            Child::List(List::Clauses(clauses)) => clauses,
+            Child::Stored(stored) => stored.typed(),
             _ => unreachable!(),
         }
     }
@@ -177,10 +56,29 @@ impl Child {
         ensures { self ≡ term_child result }
     {
         match self {
-            Child::Node(Node::Ty(ty)) => ty.into(),
-            Child::Node(Node::Const(constant)) => constant.into(),
+            Child::Stored(stored) => match stored.table {
+                TermTable::Types => {
+                    let ty: Ty = stored.typed();
+                    ty.into()
+                }
+                TermTable::Consts => {
+                    let constant: Const = stored.typed();
+                    constant.into()
+                }
+                _ => unreachable!(),
+            },
             _ => unreachable!(),
         }
+    }
+}
+
+impl<K: IsTermRow> Handle<K> {
+    /// Returns the handle as a child.
+    #[inline(always)]
+    pub fn child(self) -> Child
+        ensures { result ≡ child_in K.IsTermRow.TERM_TABLE self }
+    {
+        Child::Stored(self.any())
     }
 }
 
@@ -190,8 +88,8 @@ impl Term {
         ensures { result ≡ term_child self }
     {
         match self.kind() {
-            TermKind::Ty(ty) => Child::Node(Node::Ty(ty)),
-            TermKind::Const(constant) => Child::Node(Node::Const(constant)),
+            TermKind::Ty(ty) => ty.child(),
+            TermKind::Const(constant) => constant.child(),
         }
     }
 }

@@ -14,7 +14,7 @@ ghost use Rattle.tt_kinds.specs.Kinds.{
 
 use crate::const_kind::{ConstKind, ExprConst, UnevaluatedConst, ValTreeKind, ValueConst};
 use crate::handle::BoundVarKinds;
-use crate::parts::{Child, List, Node, Parts};
+use crate::parts::Parts;
 use crate::pattern::PatternKind;
 
 impl ConstKind {
@@ -33,11 +33,9 @@ impl ConstKind {
         ensures { result ≡ form_parts (const_form self.now) }
     {
         match self {
-            ConstKind::Unevaluated(unevaluated) => Parts::one(Child::List(List::Args(
-                unevaluated.args,
-            ))),
+            ConstKind::Unevaluated(unevaluated) => Parts::one(unevaluated.args.child()),
             ConstKind::Value(value) => value.parts(),
-            ConstKind::Expr(expression) => Parts::one(Child::List(List::Args(expression.args))),
+            ConstKind::Expr(expression) => Parts::one(expression.args.child()),
             ConstKind::Param(_)
             | ConstKind::Infer(_)
             | ConstKind::Bound(_, _)
@@ -55,12 +53,12 @@ impl ConstKind {
         match self {
             ConstKind::Unevaluated(unevaluated) => ConstKind::Unevaluated(UnevaluatedConst {
                 def: unevaluated.def,
-                args: new.first.args(),
+                args: new.first.handle(),
             }),
             ConstKind::Value(value) => ConstKind::Value(value.with_parts(new)),
             ConstKind::Expr(expression) => ConstKind::Expr(ExprConst {
                 tag: expression.tag,
-                args: new.first.args(),
+                args: new.first.handle(),
             }),
             _ => *self,
         }
@@ -82,11 +80,8 @@ impl ValueConst {
         ensures { result ≡ form_parts (value_form self.now.ty self.now.valtree.kind) }
     {
         match self.valtree.kind() {
-            ValTreeKind::Leaf(_) => Parts::one(Child::Node(Node::Ty(self.ty))),
-            ValTreeKind::Branch(consts) => Parts::two(
-                Child::Node(Node::Ty(self.ty)),
-                Child::List(List::Consts(consts)),
-            ),
+            ValTreeKind::Leaf(_) => Parts::one(self.ty.child()),
+            ValTreeKind::Branch(consts) => Parts::two(self.ty.child(), consts.child()),
         }
     }
 
@@ -99,12 +94,12 @@ impl ValueConst {
     {
         match self.valtree.kind() {
             ValTreeKind::Leaf(leaf) => ValueConst {
-                ty: new.first.ty(),
+                ty: new.first.handle(),
                 valtree: ValTreeKind::Leaf(leaf).into(),
             },
             ValTreeKind::Branch(_) => ValueConst {
-                ty: new.first.ty(),
-                valtree: ValTreeKind::Branch(new.second.consts()).into(),
+                ty: new.first.handle(),
+                valtree: ValTreeKind::Branch(new.second.handle()).into(),
             },
         }
     }
@@ -116,11 +111,8 @@ impl PatternKind {
         ensures { result ≡ (pattern_form self.now).parts }
     {
         match self {
-            PatternKind::Range { start, end } => Parts::two(
-                Child::Node(Node::Const(*start)),
-                Child::Node(Node::Const(*end)),
-            ),
-            PatternKind::Or(pats) => Parts::one(Child::List(List::Pats(*pats))),
+            PatternKind::Range { start, end } => Parts::two(start.child(), end.child()),
+            PatternKind::Or(pats) => Parts::one(pats.child()),
             PatternKind::NotNull => Parts::none(),
         }
     }
@@ -133,10 +125,10 @@ impl PatternKind {
     {
         match self {
             PatternKind::Range { .. } => PatternKind::Range {
-                start: new.first.constant(),
-                end: new.second.constant(),
+                start: new.first.handle(),
+                end: new.second.handle(),
             },
-            PatternKind::Or(_) => PatternKind::Or(new.first.pats()),
+            PatternKind::Or(_) => PatternKind::Or(new.first.handle()),
             PatternKind::NotNull => PatternKind::NotNull,
         }
     }

@@ -6,7 +6,7 @@ ghost use Rattle.tt_kinds.specs.Kinds.{clause_form, predicate_form, existential_
 
 use crate::alias::AliasTerm;
 use crate::existential::{ExistentialPredicate, ExistentialProjection, ExistentialTraitRef};
-use crate::parts::{Child, List, Node, Parts};
+use crate::parts::{Child, Parts};
 use crate::predicate::{
     CoercePredicate, HostEffectPredicate, NormalizesTo, OutlivesPredicate, ProjectionPredicate,
     SubtypePredicate, TraitPredicate, TraitRef,
@@ -19,32 +19,23 @@ impl ClauseKind {
         ensures { result ≡ (clause_form self.now).parts }
     {
         match self {
-            ClauseKind::Trait(predicate) => Parts::one(Child::List(List::Args(
-                predicate.trait_ref.args,
-            ))),
+            ClauseKind::Trait(predicate) => Parts::one(predicate.trait_ref.args.child()),
             ClauseKind::RegionOutlives(outlives) => Parts::two(
                 Child::Region(outlives.0),
                 Child::Region(outlives.1),
             ),
             ClauseKind::TypeOutlives(outlives) => Parts::two(
-                Child::Node(Node::Ty(outlives.0)),
+                outlives.0.child(),
                 Child::Region(outlives.1),
             ),
             ClauseKind::Projection(projection) => Parts::two(
-                Child::List(List::Args(projection.projection_term.args)),
+                projection.projection_term.args.child(),
                 projection.term.child(),
             ),
-            ClauseKind::ConstArgHasType(constant, ty) => Parts::two(
-                Child::Node(Node::Const(*constant)),
-                Child::Node(Node::Ty(*ty)),
-            ),
+            ClauseKind::ConstArgHasType(constant, ty) => Parts::two(constant.child(), ty.child()),
             ClauseKind::WellFormed(term) => Parts::one(term.child()),
-            ClauseKind::ConstEvaluatable(constant) => Parts::one(Child::Node(Node::Const(
-                *constant,
-            ))),
-            ClauseKind::HostEffect(effect) => Parts::one(Child::List(List::Args(
-                effect.trait_ref.args,
-            ))),
+            ClauseKind::ConstEvaluatable(constant) => Parts::one(constant.child()),
+            ClauseKind::HostEffect(effect) => Parts::one(effect.trait_ref.args.child()),
             ClauseKind::UnstableFeature(_) => Parts::none(),
         }
     }
@@ -59,7 +50,7 @@ impl ClauseKind {
             ClauseKind::Trait(predicate) => ClauseKind::Trait(TraitPredicate {
                 trait_ref: TraitRef {
                     def_id: predicate.trait_ref.def_id,
-                    args: new.first.args(),
+                    args: new.first.handle(),
                 },
             }),
             ClauseKind::RegionOutlives(_) => ClauseKind::RegionOutlives(OutlivesPredicate(
@@ -67,26 +58,26 @@ impl ClauseKind {
                 new.second.region(),
             )),
             ClauseKind::TypeOutlives(_) => ClauseKind::TypeOutlives(OutlivesPredicate(
-                new.first.ty(),
+                new.first.handle(),
                 new.second.region(),
             )),
             ClauseKind::Projection(projection) => ClauseKind::Projection(ProjectionPredicate {
                 projection_term: AliasTerm {
-                    args: new.first.args(),
+                    args: new.first.handle(),
                     def_id: projection.projection_term.def_id,
                 },
                 term: new.second.term(),
             }),
             ClauseKind::ConstArgHasType(_, _) => ClauseKind::ConstArgHasType(
-                new.first.constant(),
-                new.second.ty(),
+                new.first.handle(),
+                new.second.handle(),
             ),
             ClauseKind::WellFormed(_) => ClauseKind::WellFormed(new.first.term()),
-            ClauseKind::ConstEvaluatable(_) => ClauseKind::ConstEvaluatable(new.first.constant()),
+            ClauseKind::ConstEvaluatable(_) => ClauseKind::ConstEvaluatable(new.first.handle()),
             ClauseKind::HostEffect(effect) => ClauseKind::HostEffect(HostEffectPredicate {
                 trait_ref: TraitRef {
                     def_id: effect.trait_ref.def_id,
-                    args: new.first.args(),
+                    args: new.first.handle(),
                 },
                 constness: effect.constness,
             }),
@@ -102,20 +93,11 @@ impl PredicateKind {
     {
         match self {
             PredicateKind::Clause(clause) => clause.parts(),
-            PredicateKind::Subtype(subtype) => Parts::two(
-                Child::Node(Node::Ty(subtype.a)),
-                Child::Node(Node::Ty(subtype.b)),
-            ),
-            PredicateKind::Coerce(coercion) => Parts::two(
-                Child::Node(Node::Ty(coercion.a)),
-                Child::Node(Node::Ty(coercion.b)),
-            ),
-            PredicateKind::ConstEquate(first, second) => Parts::two(
-                Child::Node(Node::Const(*first)),
-                Child::Node(Node::Const(*second)),
-            ),
+            PredicateKind::Subtype(subtype) => Parts::two(subtype.a.child(), subtype.b.child()),
+            PredicateKind::Coerce(coercion) => Parts::two(coercion.a.child(), coercion.b.child()),
+            PredicateKind::ConstEquate(first, second) => Parts::two(first.child(), second.child()),
             PredicateKind::NormalizesTo(normalizes) => Parts::two(
-                Child::List(List::Args(normalizes.alias.args)),
+                normalizes.alias.args.child(),
                 normalizes.term.child(),
             ),
             PredicateKind::AliasRelate(first, second, _) => Parts::two(
@@ -137,21 +119,21 @@ impl PredicateKind {
             PredicateKind::DynCompatible(id) => PredicateKind::DynCompatible(*id),
             PredicateKind::Subtype(subtype) => PredicateKind::Subtype(SubtypePredicate {
                 a_is_expected: subtype.a_is_expected,
-                a: new.first.ty(),
-                b: new.second.ty(),
+                a: new.first.handle(),
+                b: new.second.handle(),
             }),
             PredicateKind::Coerce(_) => PredicateKind::Coerce(CoercePredicate {
-                a: new.first.ty(),
-                b: new.second.ty(),
+                a: new.first.handle(),
+                b: new.second.handle(),
             }),
             PredicateKind::ConstEquate(_, _) => PredicateKind::ConstEquate(
-                new.first.constant(),
-                new.second.constant(),
+                new.first.handle(),
+                new.second.handle(),
             ),
             PredicateKind::Ambiguous => PredicateKind::Ambiguous,
             PredicateKind::NormalizesTo(normalizes) => PredicateKind::NormalizesTo(NormalizesTo {
                 alias: AliasTerm {
-                    args: new.first.args(),
+                    args: new.first.handle(),
                     def_id: normalizes.alias.def_id,
                 },
                 term: new.second.term(),
@@ -171,11 +153,9 @@ impl ExistentialPredicate {
         ensures { result ≡ (existential_form self.now).parts }
     {
         match self {
-            ExistentialPredicate::Trait(trait_ref) => Parts::one(Child::List(List::Args(
-                trait_ref.args,
-            ))),
+            ExistentialPredicate::Trait(trait_ref) => Parts::one(trait_ref.args.child()),
             ExistentialPredicate::Projection(projection) => Parts::two(
-                Child::List(List::Args(projection.args)),
+                projection.args.child(),
                 projection.term.child(),
             ),
             ExistentialPredicate::AutoTrait(_) => Parts::none(),
@@ -192,13 +172,13 @@ impl ExistentialPredicate {
             ExistentialPredicate::Trait(trait_ref) => ExistentialPredicate::Trait(
                 ExistentialTraitRef {
                     def_id: trait_ref.def_id,
-                    args: new.first.args(),
+                    args: new.first.handle(),
                 },
             ),
             ExistentialPredicate::Projection(projection) => {
                 ExistentialPredicate::Projection(ExistentialProjection {
                     def_id: projection.def_id,
-                    args: new.first.args(),
+                    args: new.first.handle(),
                     term: new.second.term(),
                 })
             }

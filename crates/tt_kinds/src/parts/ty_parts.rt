@@ -8,7 +8,7 @@ use crate::alias::AliasTy;
 use crate::binder::Binder;
 use crate::fn_sig::FnSigTys;
 use crate::handle::{BoundVarKinds, Ty};
-use crate::parts::{Child, List, Node, Parts};
+use crate::parts::{Child, Parts};
 use crate::ty_kind::TyKind;
 
 impl TyKind {
@@ -36,27 +36,19 @@ impl TyKind {
             | TyKind::CoroutineClosure(_, args)
             | TyKind::Coroutine(_, args)
             | TyKind::CoroutineWitness(_, args)
-            | TyKind::Alias(AliasTy { args, .. }) => Parts::one(Child::List(List::Args(*args))),
-            TyKind::Array(ty, constant) => Parts::two(
-                Child::Node(Node::Ty(*ty)),
-                Child::Node(Node::Const(*constant)),
-            ),
-            TyKind::Pat(ty, pat) => Parts::two(
-                Child::Node(Node::Ty(*ty)),
-                Child::Node(Node::Pat(*pat)),
-            ),
+            | TyKind::Alias(AliasTy { args, .. }) => Parts::one(args.child()),
+            TyKind::Array(ty, constant) => Parts::two(ty.child(), constant.child()),
+            TyKind::Pat(ty, pat) => Parts::two(ty.child(), pat.child()),
             TyKind::Ref(region, ty, _) => {
-                let referent = Child::Node(Node::Ty(*ty));
+                let referent = ty.child();
                 Parts::two(Child::Region(*region), referent)
             }
-            TyKind::RawPtr(ty, _) | TyKind::Slice(ty) => Parts::one(Child::Node(Node::Ty(*ty))),
-            TyKind::Tuple(tys) => Parts::one(Child::List(List::Tys(*tys))),
-            TyKind::FnPtr(types, _) => Parts::one(Child::List(List::Tys(
-                types.skip_binder().inputs_and_output,
-            ))),
-            TyKind::UnsafeBinder(inner) => Parts::one(Child::Node(Node::Ty(inner.skip_binder()))),
+            TyKind::RawPtr(ty, _) | TyKind::Slice(ty) => Parts::one(ty.child()),
+            TyKind::Tuple(tys) => Parts::one(tys.child()),
+            TyKind::FnPtr(types, _) => Parts::one(types.skip_binder().inputs_and_output.child()),
+            TyKind::UnsafeBinder(inner) => Parts::one(inner.skip_binder().child()),
             TyKind::Dynamic(predicates, region) => Parts::two(
-                Child::List(List::Existentials(*predicates)),
+                predicates.child(),
                 Child::Region(*region),
             ),
             // The other kinds hold no region, no stored term and no list.
@@ -72,33 +64,33 @@ impl TyKind {
         ensures { ty_form result ≡ refilled new (ty_form self.now) }
     {
         match self {
-            TyKind::Adt(id, _) => TyKind::Adt(*id, new.first.args()),
-            TyKind::FnDef(id, _) => TyKind::FnDef(*id, new.first.args()),
-            TyKind::Array(_, _) => TyKind::Array(new.first.ty(), new.second.constant()),
-            TyKind::Pat(_, _) => TyKind::Pat(new.first.ty(), new.second.pat()),
-            TyKind::Slice(_) => TyKind::Slice(new.first.ty()),
-            TyKind::RawPtr(_, mutability) => TyKind::RawPtr(new.first.ty(), *mutability),
+            TyKind::Adt(id, _) => TyKind::Adt(*id, new.first.handle()),
+            TyKind::FnDef(id, _) => TyKind::FnDef(*id, new.first.handle()),
+            TyKind::Array(_, _) => TyKind::Array(new.first.handle(), new.second.handle()),
+            TyKind::Pat(_, _) => TyKind::Pat(new.first.handle(), new.second.handle()),
+            TyKind::Slice(_) => TyKind::Slice(new.first.handle()),
+            TyKind::RawPtr(_, mutability) => TyKind::RawPtr(new.first.handle(), *mutability),
             TyKind::Ref(_, _, mutability) => TyKind::Ref(
                 new.first.region(),
-                new.second.ty(),
+                new.second.handle(),
                 *mutability,
             ),
             TyKind::FnPtr(types, header) => {
-                let inputs_and_output = new.first.tys();
+                let inputs_and_output = new.first.handle();
                 TyKind::FnPtr(
                     Binder::bind_with_vars(FnSigTys { inputs_and_output }, types.bound_vars()),
                     *header,
                 )
             }
-            TyKind::UnsafeBinder(inner) => TyKind::UnsafeBinder(inner.with_ty(new.first.ty())),
-            TyKind::Dynamic(_, _) => TyKind::Dynamic(new.first.existentials(), new.second.region()),
-            TyKind::Closure(id, _) => TyKind::Closure(*id, new.first.args()),
-            TyKind::CoroutineClosure(id, _) => TyKind::CoroutineClosure(*id, new.first.args()),
-            TyKind::Coroutine(id, _) => TyKind::Coroutine(*id, new.first.args()),
-            TyKind::CoroutineWitness(id, _) => TyKind::CoroutineWitness(*id, new.first.args()),
-            TyKind::Tuple(_) => TyKind::Tuple(new.first.tys()),
+            TyKind::UnsafeBinder(inner) => TyKind::UnsafeBinder(inner.with_ty(new.first.handle())),
+            TyKind::Dynamic(_, _) => TyKind::Dynamic(new.first.handle(), new.second.region()),
+            TyKind::Closure(id, _) => TyKind::Closure(*id, new.first.handle()),
+            TyKind::CoroutineClosure(id, _) => TyKind::CoroutineClosure(*id, new.first.handle()),
+            TyKind::Coroutine(id, _) => TyKind::Coroutine(*id, new.first.handle()),
+            TyKind::CoroutineWitness(id, _) => TyKind::CoroutineWitness(*id, new.first.handle()),
+            TyKind::Tuple(_) => TyKind::Tuple(new.first.handle()),
             TyKind::Alias(alias) => TyKind::Alias(AliasTy {
-                args: new.first.args(),
+                args: new.first.handle(),
                 kind: alias.kind,
             }),
             _ => *self,

@@ -1,10 +1,10 @@
 //! The pieces of a text that are still to be written. They are on the heap, so that a term may be as deep as memory
 //! allows.
 
-ghost use Rattle.std.specs.Prelude.{◌≡◌, ◌≤◌, suc, ◌++◌, List as Items, OnOk};
-ghost use Rattle.tt_kinds.specs.Kinds.{child_shapes, items_label, list_shape, parts_shapes};
+ghost use Rattle.std.specs.Prelude.{◌≡◌, ◌≤◌, suc, ◌++◌, IsTrue, List as Items, OnOk};
+ghost use Rattle.tt_kinds.specs.Kinds.{child_shapes, items_label, handle_shape, parts_shapes};
 ghost use Rattle.tt_kinds.specs.Label.{Name};
-ghost use Rattle.tt_kinds.specs.Parts.{list_sort};
+ghost use Rattle.tt_kinds.specs.TermTable.{has_items};
 ghost use Rattle.tt_kinds.specs.Shape.{AreParts, Meaning, fill_all};
 ghost use Rattle.tt_kinds.specs.Tree.{count_trees};
 ghost use Rattle.tt_interner.specs.Owned.{IsPartBy, tree_by};
@@ -16,7 +16,7 @@ use super::layout::{Place, Style};
 use smallvec::SmallVec;
 use std::alloc::AllocError;
 use tt_interner::Interner;
-use tt_kinds::{Child, List, Parts};
+use tt_kinds::{AnyHandle, Child, Parts, TermTable};
 
 /// The text at a place of a term, and the child after this text, if there is one.
 #[derive(Clone, Copy)]
@@ -117,15 +117,16 @@ pub(crate) fn push_list(
     cx: &Interner,
     pieces: &mut Pieces,
     style: Style,
-    list: List,
+    list: AnyHandle,
 ) -> Result<(), AllocError>
-    requires { IsPartBy list_shape cx.now.rows list }
+    requires list { IsPartBy handle_shape cx.now.rows list }
+    requires items { IsTrue (has_items list.table) }
     ensures { OnOk result (AddsPieces
         cx.now.rows
         pieces.old.items
         pieces.new.items
-        (text_in (names cx.now.rows) style (tree_by list_shape cx.now.rows list))
-        (inner_work (tree_by list_shape cx.now.rows list))) }
+        (text_in (names cx.now.rows) style (tree_by handle_shape cx.now.rows list))
+        (inner_work (tree_by handle_shape cx.now.rows list))) }
 {
     let items = items_style(style, list);
     let count = cx.list_len(list);
@@ -140,11 +141,11 @@ pub(crate) fn push_list(
 }
 
 // Returns the style of a list's items, in a term of this style.
-fn items_style(style: Style, list: List) -> Style
-    ensures { result ≡ style_in style (items_label {N = Name} (list_sort list)) }
+fn items_style(style: Style, list: AnyHandle) -> Style
+    ensures { result ≡ style_in style (items_label {N = Name} list.table) }
 {
-    match list {
-        List::Clauses(_) => Style::Listed,
+    match list.table {
+        TermTable::ClauseLists => Style::Listed,
         _ => style.of_list(),
     }
 }
@@ -156,7 +157,7 @@ fn is_absent(child: &Child) -> bool
 {
     match child {
         Child::Absent => true,
-        Child::Region(_) | Child::Node(_) | Child::List(_) => false,
+        Child::Region(_) | Child::Stored(_) => false,
     }
 }
 
@@ -168,7 +169,7 @@ fn child_count(child: &Child) -> usize
 {
     match child {
         Child::Absent => 0,
-        Child::Region(_) | Child::Node(_) | Child::List(_) => 1,
+        Child::Region(_) | Child::Stored(_) => 1,
     }
 }
 

@@ -18,10 +18,9 @@ use super::{IrPrint, print_child, print_kind, print_record, write_variables};
 use std::alloc::AllocError;
 use tt_interner::Interner;
 use tt_kinds::{
-    AliasTerm, AliasTy, Binder, BoundExistentialPredicates, Child, ClauseKind, Clauses, ConstKind,
-    Consts, ExistentialPredicate, FnSig, GenericArgs, HostEffectPredicate, Kind, List, Node,
-    OutlivesPredicate, ParamEnv, Parts, PatList, PatternKind, PredicateKind, ProjectionPredicate,
-    Region, TraitPredicate, TraitRef, Ty, TyKind, Tys,
+    AliasTerm, AliasTy, Binder, Child, ClauseKind, ConstKind, ExistentialPredicate, FnSig,
+    GenericArgs, HostEffectPredicate, Kind, OutlivesPredicate, ParamEnv, Parts, PatternKind,
+    PredicateKind, ProjectionPredicate, Region, TraitPredicate, TraitRef, Ty, TyKind,
 };
 
 // Appends the name of an item and its arguments, or nothing if memory for them is refused.
@@ -41,12 +40,7 @@ fn print_item(
     ensures err { OnErr result (string_bytes out.new ≡ string_bytes out.old) }
 {
     let spelling = declared("", number, Style::Generic);
-    print_record(
-        cx,
-        out,
-        &spelling,
-        &Parts::one(Child::List(List::Args(args))),
-    )
+    print_record(cx, out, &spelling, &Parts::one(args.child()))
 }
 
 // Appends the variables of a binder, and the value under it.
@@ -92,48 +86,6 @@ impl<T: IrPrint> IrPrint for Binder<T> {
     }
 }
 
-impl IrPrint for Tys {
-    #[tactic(auto, unfolding(tt_kinds::specs::Shape::fill, tt_kinds::specs::Shape::fill_all))]
-    fn print(&self, cx: &Interner, out: &mut String) -> Result<(), AllocError> {
-        print_child(cx, out, &Child::List(List::Tys(*self)))
-    }
-}
-
-impl IrPrint for Consts {
-    #[tactic(auto, unfolding(tt_kinds::specs::Shape::fill, tt_kinds::specs::Shape::fill_all))]
-    fn print(&self, cx: &Interner, out: &mut String) -> Result<(), AllocError> {
-        print_child(cx, out, &Child::List(List::Consts(*self)))
-    }
-}
-
-impl IrPrint for GenericArgs {
-    #[tactic(auto, unfolding(tt_kinds::specs::Shape::fill, tt_kinds::specs::Shape::fill_all))]
-    fn print(&self, cx: &Interner, out: &mut String) -> Result<(), AllocError> {
-        print_child(cx, out, &Child::List(List::Args(*self)))
-    }
-}
-
-impl IrPrint for PatList {
-    #[tactic(auto, unfolding(tt_kinds::specs::Shape::fill, tt_kinds::specs::Shape::fill_all))]
-    fn print(&self, cx: &Interner, out: &mut String) -> Result<(), AllocError> {
-        print_child(cx, out, &Child::List(List::Pats(*self)))
-    }
-}
-
-impl IrPrint for BoundExistentialPredicates {
-    #[tactic(auto, unfolding(tt_kinds::specs::Shape::fill, tt_kinds::specs::Shape::fill_all))]
-    fn print(&self, cx: &Interner, out: &mut String) -> Result<(), AllocError> {
-        print_child(cx, out, &Child::List(List::Existentials(*self)))
-    }
-}
-
-impl IrPrint for Clauses {
-    #[tactic(auto, unfolding(tt_kinds::specs::Shape::fill, tt_kinds::specs::Shape::fill_all))]
-    fn print(&self, cx: &Interner, out: &mut String) -> Result<(), AllocError> {
-        print_child(cx, out, &Child::List(List::Clauses(*self)))
-    }
-}
-
 impl IrPrint for TraitRef {
     #[tactic(auto, unfolding(tt_kinds::specs::Shape::fill, tt_kinds::specs::Shape::fill_all))]
     fn print(&self, cx: &Interner, out: &mut String) -> Result<(), AllocError> {
@@ -160,7 +112,7 @@ impl IrPrint for FnSig {
     #[tactic(auto, unfolding(tt_kinds::specs::Shape::fill, tt_kinds::specs::Shape::fill_all))]
     fn print(&self, cx: &Interner, out: &mut String) -> Result<(), AllocError> {
         let spelling = fn_spelling(self.fn_sig_kind);
-        let types = Child::List(List::Tys(self.inputs_and_output));
+        let types = self.inputs_and_output.child();
         print_record(cx, out, &spelling, &Parts::one(types))
     }
 }
@@ -169,7 +121,7 @@ impl IrPrint for ParamEnv {
     #[tactic(auto, unfolding(tt_kinds::specs::Shape::fill, tt_kinds::specs::Shape::fill_all))]
     fn print(&self, cx: &Interner, out: &mut String) -> Result<(), AllocError> {
         let spelling = worded("ParamEnv(", Style::Record);
-        let clauses = Child::List(List::Clauses(self.caller_bounds));
+        let clauses = self.caller_bounds.child();
         print_record(cx, out, &spelling, &Parts::one(clauses))
     }
 }
@@ -220,7 +172,7 @@ impl IrPrint for OutlivesPredicate<Ty> {
     #[tactic(auto, unfolding(tt_kinds::specs::Shape::fill, tt_kinds::specs::Shape::fill_all))]
     fn print(&self, cx: &Interner, out: &mut String) -> Result<(), AllocError> {
         let spelling = worded("", Style::Outlives);
-        let parts = Parts::two(Child::Node(Node::Ty(self.0)), Child::Region(self.1));
+        let parts = Parts::two(self.0.child(), Child::Region(self.1));
         print_record(cx, out, &spelling, &parts)
     }
 }

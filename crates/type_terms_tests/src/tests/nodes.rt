@@ -3,13 +3,13 @@
 use super::holds_anew;
 use test_terms::{NOT_OWNED, bound_region, one_region, param_ty, ref_ty, ty, tys, u32_ty};
 use type_terms::{
-    Binder, Child, DebruijnIndex, GREATEST_INDEX, HasEscapingVarsVisitor, HasTypeFlagsVisitor,
-    Interner, Kind, List, ListSort, MeetsRegionsVisitor, Node, Owned, Parts, Refusal, Ty, TyKind,
-    TypeFlags, TypeVisitable,
+    AnyHandle, Binder, Child, DebruijnIndex, GREATEST_INDEX, HasEscapingVarsVisitor,
+    HasTypeFlagsVisitor, Interner, Kind, MeetsRegionsVisitor, Owned, Parts, Refusal, TermTable, Ty,
+    TyKind, TypeFlags, TypeVisitable,
 };
 
-// Returns the type of this kind, stored as a node.
-fn stored(cx: &mut Interner, kind: TyKind) -> Result<Node, Refusal> {
+// Returns the stored type of this kind.
+fn stored(cx: &mut Interner, kind: TyKind) -> Result<AnyHandle, Refusal> {
     if cx.owns_kind(&kind) {
         cx.store(Kind::Ty(kind))
     } else {
@@ -18,12 +18,12 @@ fn stored(cx: &mut Interner, kind: TyKind) -> Result<Node, Refusal> {
 }
 
 // Returns the type like this one around another type.
-fn stored_like(cx: &mut Interner, like: Ty, inside: Ty) -> Result<Node, Refusal> {
-    let node = Node::Ty(like);
+fn stored_like(cx: &mut Interner, like: Ty, inside: Ty) -> Result<AnyHandle, Refusal> {
+    let node = like.any();
     if !cx.owns_ty(like) || !cx.owns_ty(inside) {
         return Err(NOT_OWNED);
     }
-    let parts = Parts::one(Child::Node(Node::Ty(inside)));
+    let parts = Parts::one(inside.child());
     if !cx.node_parts(node).parts.are_like(&parts) {
         return Err(NOT_OWNED);
     }
@@ -31,9 +31,9 @@ fn stored_like(cx: &mut Interner, like: Ty, inside: Ty) -> Result<Node, Refusal>
 }
 
 // Returns the list of this type, as a list of children.
-fn stored_list(cx: &mut Interner, item: Ty) -> Result<List, Refusal> {
+fn stored_list(cx: &mut Interner, item: Ty) -> Result<AnyHandle, Refusal> {
     if cx.owns_ty(item) {
-        cx.store_list(ListSort::Tys, &[Child::Node(Node::Ty(item))])
+        cx.store_list(TermTable::TypeLists, &[item.child()])
     } else {
         Err(NOT_OWNED)
     }
@@ -46,10 +46,10 @@ fn nodes_hold(cx: &mut Interner) -> Result<bool, Refusal> {
     let other = ty(cx, TyKind::Slice(truth))?;
     let list = tys(cx, &[truth])?;
     Ok(
-        stored(cx, TyKind::Slice(truth))? == Node::Ty(other)
-            && stored_like(cx, slice, truth)? == Node::Ty(other)
+        stored(cx, TyKind::Slice(truth))? == other.any()
+            && stored_like(cx, slice, truth)? == other.any()
             && stored_like(cx, number, truth) == Err(NOT_OWNED)
-            && stored_list(cx, truth)? == List::Tys(list),
+            && stored_list(cx, truth)? == list.any(),
     )
 }
 

@@ -1,17 +1,17 @@
-//! Nodes, lists and children, and the kinds whose parts they are.
+//! Handles of any table, children, and the kinds whose parts they are.
 
 use type_terms::{
     AliasTy, AliasTyKind, Binder, BoundConst, BoundExistentialPredicates, BoundVar,
     BoundVarIndexKind, BoundVarKinds, Child, ClauseKind, Clauses, Const, ConstKind, Consts,
     DebruijnIndex, EarlyBinder, ErrorGuaranteed, ExistentialPredicate, ExistentialTraitRef,
-    FnHeader, FnSigTys, GREATEST_INDEX, GenericArgs, InferTy, Kind, List, Mutability, Node,
-    OpaqueTyId, OwnFlags, ParamTy, Parts, Pat, PatList, PatternKind, PolyExistentialPredicate,
-    Predicate, PredicateKind, Region, ScalarInt, Symbol, Term, TraitId, Ty, TyKind, TyVid, Tys,
-    ValTree, ValTreeKind, ValueConst,
+    FnHeader, FnSigTys, GREATEST_INDEX, GenericArgs, InferTy, Kind, Mutability, OpaqueTyId,
+    OwnFlags, ParamTy, Parts, Pat, PatList, PatternKind, PolyExistentialPredicate, Predicate,
+    PredicateKind, Region, ScalarInt, Symbol, Table, Term, TermTable, TraitId, Ty, TyKind, TyVid,
+    Tys, ValTree, ValTreeKind, ValueConst,
 };
 
-// A node has its term.
-fn nodes_have_terms() -> bool {
+// A handle is the same after its table became a value, and a mark again.
+fn handles_have_tables() -> bool {
     let (ty, constant, pat) = (
         Ty::from_number(1),
         Const::from_number(2),
@@ -19,40 +19,34 @@ fn nodes_have_terms() -> bool {
     );
     let (predicate, clauses) = (Predicate::from_number(4), Clauses::from_number(5));
     let existential = PolyExistentialPredicate::from_number(6);
-    Node::Ty(ty).ty() == ty
-        && Node::Const(constant).constant() == constant
-        && Node::Pat(pat).pat() == pat
-        && Node::Predicate(predicate).predicate() == predicate
-        && Node::Existential(existential).existential() == existential
-        && Node::Clauses(clauses).clauses() == clauses
-        && Child::Node(Node::Ty(ty)).ty() == ty
-        && Child::Node(Node::Const(constant)).constant() == constant
-        && Child::Node(Node::Pat(pat)).pat() == pat
-        && Child::Node(Node::Predicate(predicate)).predicate() == predicate
-        && Child::Node(Node::Existential(existential)).existential() == existential
+    ty.any().typed() == ty
+        && constant.any().typed() == constant
+        && pat.any().typed() == pat
+        && predicate.any().typed() == predicate
+        && existential.any().typed() == existential
+        && clauses.any().typed() == clauses
+        && ty.child().handle() == ty
+        && constant.child().handle() == constant
         && Child::Region(Region::new_static()).region() == Region::new_static()
 }
 
-// A list is the one of its sort.
-fn lists_have_sorts() -> bool {
+// Each list has its table. Tables of lists have items, and only the one of lists of clauses is one of terms too.
+fn tables_have_terms() -> bool {
     let (tys, consts) = (Tys::from_number(1), Consts::from_number(2));
     let (args, pats) = (GenericArgs::from_number(3), PatList::from_number(4));
-    let (bounds, clauses) = (
-        BoundExistentialPredicates::from_number(5),
-        Clauses::from_number(6),
-    );
-    List::Tys(tys).tys() == tys
-        && List::Consts(consts).consts() == consts
-        && List::Args(args).args() == args
-        && List::Pats(pats).pats() == pats
-        && List::Existentials(bounds).existentials() == bounds
-        && List::Clauses(clauses).clauses() == clauses
-        && Child::List(List::Tys(tys)).tys() == tys
-        && Child::List(List::Consts(consts)).consts() == consts
-        && Child::List(List::Args(args)).args() == args
-        && Child::List(List::Pats(pats)).pats() == pats
-        && Child::List(List::Existentials(bounds)).existentials() == bounds
-        && Child::List(List::Clauses(clauses)).clauses() == clauses
+    let bounds = BoundExistentialPredicates::from_number(5);
+    tys.any().table == TermTable::TypeLists
+        && tys.any().table.table() == Table::TypeLists
+        && consts.any().table == TermTable::ConstLists
+        && args.any().table == TermTable::ArgLists
+        && pats.any().table == TermTable::PatternLists
+        && bounds.any().table == TermTable::ExistentialLists
+        && TermTable::TypeLists.has_items()
+        && !TermTable::TypeLists.is_term()
+        && TermTable::ClauseLists.has_items()
+        && TermTable::ClauseLists.is_term()
+        && !TermTable::Types.has_items()
+        && TermTable::Types.is_term()
 }
 
 // Returns the child that is this type, or this constant.
@@ -67,12 +61,12 @@ fn const_child(number: u32) -> Child {
 // Children are alike if they are of one sort, whatever they are.
 fn children_are_alike() -> bool {
     let ty = type_child(1);
-    ty == Child::Node(Node::Ty(Ty::from_number(1)))
-        && const_child(1) == Child::Node(Node::Const(Const::from_number(1)))
+    ty == Ty::from_number(1).child()
+        && const_child(1) == Const::from_number(1).child()
         && ty.is_like(&type_child(2))
         && !ty.is_like(&const_child(1))
         && !ty.is_like(&Child::Absent)
-        && !ty.is_like(&Child::List(List::Tys(Tys::from_number(1))))
+        && !ty.is_like(&Tys::from_number(1).child())
         && Child::Absent.is_like(&Child::Absent)
 }
 
@@ -125,7 +119,7 @@ fn of_trait(args: u32) -> ExistentialPredicate {
 // A value's children are its type and the values of a branch, and those of a trait object's predicate its arguments.
 fn records_have_parts() -> bool {
     let (before, after) = (branch(1, 2), branch(3, 4));
-    let values = Child::List(List::Consts(Consts::from_number(4)));
+    let values = Consts::from_number(4).child();
     let wanted = Parts::two(type_child(3), values);
     let leaf = ValTree::from(ValTreeKind::Leaf(ScalarInt { bits: 0, size: 1 }));
     let small = ValueConst {
@@ -133,7 +127,7 @@ fn records_have_parts() -> bool {
         valtree: leaf,
     };
     let (one, two) = (of_trait(1), of_trait(2));
-    let list = Parts::one(Child::List(List::Args(GenericArgs::from_number(2))));
+    let list = Parts::one(GenericArgs::from_number(2).child());
     after.parts() == wanted
         && before.parts().are_like(&wanted)
         && before.with_parts(wanted) == after
@@ -212,12 +206,12 @@ fn kinds_have_flags() -> bool {
         && TyKind::Error(ErrorGuaranteed(3)).own_flags().bits() == 0x8000
 }
 
-// Nodes, lists, children, kinds and records, by each call on them.
+// Handles, children, kinds and records, by each call on them.
 #[test]
 fn calls_on_parts(rt: HostRuntime) {
     assert!(rt;
-        nodes_have_terms()
-            && lists_have_sorts()
+        handles_have_tables()
+            && tables_have_terms()
             && children_are_alike()
             && kinds_have_parts()
             && records_have_parts()

@@ -3,7 +3,10 @@ use Rattle.tt_fold.specs.Calls.{FoldsTypes}
 use Rattle.tt_fold.proofs.calls.+calls.Given as goal
 
 abbrev pub decreases-fold_within : goal.decreases-fold_within
-decreases-fold_within g l = 8 * l.levels + 4
+decreases-fold_within g l = 8 * l.levels + 5
+
+abbrev pub decreases-fold_stored_within : goal.decreases-fold_stored_within
+decreases-fold_stored_within g l = 8 * l.levels + 4
 
 abbrev pub decreases-fold_ty : goal.decreases-fold_ty
 decreases-fold_ty g l = 8 * l.levels + 2

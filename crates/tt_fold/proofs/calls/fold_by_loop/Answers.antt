@@ -1,17 +1,17 @@
 use Rattle.std.proofs.lemmas.Result.{err_from_is_err_and}
-use Rattle.tt_interner.proofs.Growth.{Extends-trans, AreParts-grows}
-use Rattle.tt_kinds.specs.Kinds.{child_shapes}
-use Rattle.tt_fold.proofs.ChildSteps.{opened_whole, child_not_begun, child_done, child_rest_fails, child_ends}
+use Rattle.tt_kinds.specs.Kinds.{handle_shape}
+use Rattle.tt_interner.proofs.Growth.{Extends-trans, IsPart-grows}
+use Rattle.tt_fold.proofs.ChildSteps.{stored_not_begun, stored_done, stored_rest_fails, stored_ends}
 use Rattle.tt_fold.proofs.ChildSteps.{never_inside, rest_is}
 use Rattle.tt_fold.proofs.calls.fold_by_loop.Goals as goal
 
 pub returns-in_err-begun-clause-folds : goal.returns-in_err-begun-clause-folds
 returns-in_err-begun-clause-folds g c =
     let p = err_from_is_err_and c.from_residual.result c.from_residual.ensures.1 in
-    rw (p.1, p.2) (child_not_begun c.in_err-begun.ensures.goes)
+    rw (p.1, p.2) (stored_not_begun c.in_err-begun.ensures.goes)
 
 pub returns-in-Done-clause-folds : goal.returns-in-Done-clause-folds
-returns-in-Done-clause-folds g c = child_done (rw c.in-Done.is at c.in_ok-begun.ensures.goes)
+returns-in-Done-clause-folds g c = stored_done (rw c.in-Done.is at c.in_ok-begun.ensures.goes)
 
 pub fold_frames-requires-clause-owned : goal.fold_frames-requires-clause-owned
 fold_frames-requires-clause-owned g c = c.in_ok-begun.ensures.goes.is_owned
@@ -30,34 +30,29 @@ pub returns-in_err-rebuilt-in-Inside-clause-folds : goal.returns-in_err-rebuilt-
 returns-in_err-rebuilt-in-Inside-clause-folds g c =
     let p = err_from_is_err_and c.from_residual-in_err-rebuilt-in-Inside.result c.from_residual-in_err-rebuilt-in-Inside.ensures.1 in
     let d = rw c.in-Inside.is at c.in_ok-begun.ensures.goes in
-    rw (p.1, p.2) (child_rest_fails d c.in_err-rebuilt-in-Inside.ensures)
+    rw (p.1, p.2) (stored_rest_fails d c.in_err-rebuilt-in-Inside.ensures)
 
 pub returns-in_err-rebuilt-in-Inside-clause-still : goal.returns-in_err-rebuilt-in-Inside-clause-still
 returns-in_err-rebuilt-in-Inside-clause-still g c =
     let d = rw c.in-Inside.is at c.in_ok-begun.ensures.goes in
-    λ alone ends. absurd (never_inside c.requires.child d alone ends)
+    λ alone ends. absurd (never_inside c.requires.handle d alone ends)
 
-pub finish_by_call-requires-clause-before : goal.finish_by_call-requires-clause-before
-finish_by_call-requires-clause-before g c =
+pub finish_other-requires-clause-before : goal.finish_other-requires-clause-before
+finish_other-requires-clause-before g c =
     let extends = Extends-trans c.in_ok-begun.ensures.goes.extends c.in_ok-rebuilt-in-Inside.ensures.extends in
-    AreParts-grows _ _ extends.rows (child_shapes c.args.child.now) c.requires.child
+    IsPart-grows _ _ extends.rows (handle_shape c.args.handle) c.requires.handle
 
-pub finish_by_call-requires-clause-whole : goal.finish_by_call-requires-clause-whole
-finish_by_call-requires-clause-whole g c =
-    let d = rw c.in-Inside.is at c.in_ok-begun.ensures.goes in
-    opened_whole d.outcome.0
-
-pub finish_by_call-requires-clause-rebuilt : goal.finish_by_call-requires-clause-rebuilt
-finish_by_call-requires-clause-rebuilt g c =
+pub finish_other-requires-clause-rebuilt : goal.finish_other-requires-clause-rebuilt
+finish_other-requires-clause-rebuilt g c =
     let d = rw c.in-Inside.is at c.in_ok-begun.ensures.goes in
     rest_is d.outcome.0 c.in_ok-rebuilt-in-Inside.ensures
 
 pub returns-in_ok-rebuilt-in-Inside-clause-folds : goal.returns-in_ok-rebuilt-in-Inside-clause-folds
 returns-in_ok-rebuilt-in-Inside-clause-folds g c =
     let d = rw c.in-Inside.is at c.in_ok-begun.ensures.goes in
-    child_ends c.requires.child d c.in_ok-rebuilt-in-Inside.ensures c.finish_by_call.ensures
+    stored_ends c.requires.handle d c.in_ok-rebuilt-in-Inside.ensures c.finish_other.ensures
 
 pub returns-in_ok-rebuilt-in-Inside-clause-still : goal.returns-in_ok-rebuilt-in-Inside-clause-still
 returns-in_ok-rebuilt-in-Inside-clause-still g c =
     let d = rw c.in-Inside.is at c.in_ok-begun.ensures.goes in
-    λ alone ends. absurd (never_inside c.requires.child d alone ends)
+    λ alone ends. absurd (never_inside c.requires.handle d alone ends)

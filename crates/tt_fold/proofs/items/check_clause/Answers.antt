@@ -1,25 +1,24 @@
 use Rattle.std.proofs.Common.{◌≡◌, ◌<◌, List, inl, inr, Bool, true, false, refl, ap, ◌∙◌}
 use Rattle.std.specs.Prelude.{IsTrue, not}
 use Rattle.tt_kinds.specs.Tree as tree
-use Rattle.tt_kinds.specs.Kinds.{node_shape}
-use Rattle.tt_kinds.specs.Handle.{Predicate}
+use Rattle.tt_kinds.specs.Kinds.{child_shapes, handle_shape}
+use Rattle.tt_kinds.specs.Handle.{Predicate, any_handle}
 use Rattle.tt_kinds.specs.declared.parts.Child.{Child}
 use Rattle.tt_kinds.specs.declared.parts.Child.TheVariants as child
-use Rattle.tt_kinds.specs.declared.parts.Node.TheVariants as node
 use Rattle.tt_kinds.specs.declared.table.Table.TheVariants.{Predicates}
+use Rattle.tt_kinds.specs.declared.table.TermTable.TheVariants as terms_of
 use Rattle.tt_interner.specs.Clauses.{is_clause_tree, HasOther}
 use Rattle.tt_interner.specs.Rows.{Row, size, meaning, IsClause}
 use Rattle.tt_fold.specs.Parts.{ArePartsOf, child_trees}
 use Rattle.tt_fold.proofs.PartLaws.{in_range, only_part, one_tree, stored_tree}
-use Rattle.tt_kinds.specs.Kinds.{child_shapes}
 use Rattle.tt_fold.proofs.items.check_clause.Goals as goal
 
-module _ (rows : List Row) (x : Child) (p : Predicate) (is : x ≡ child.Node (node.Predicate p)) where
+module _ (rows : List Row) (x : Child) (p : Predicate) (is : x ≡ child.Stored (any_handle terms_of.Predicates p)) where
   trees : child_trees rows x ≡ tree.also (meaning rows Predicates p.number) tree.none
-  trees = rw is (one_tree rows (node_shape (node.Predicate p)) ∙ ap (λ t. tree.also t tree.none) (stored_tree rows Predicates p.number))
+  trees = rw is (one_tree rows (handle_shape (any_handle terms_of.Predicates p)) ∙ ap (λ t. tree.also t tree.none) (stored_tree rows Predicates p.number))
 
   inside : ArePartsOf rows (child_shapes x) → p.number < size rows Predicates
-  inside h = in_range rows Predicates p.number (only_part rows (node_shape (node.Predicate p)) (rw is at h))
+  inside h = in_range rows Predicates p.number (only_part rows (handle_shape (any_handle terms_of.Predicates p)) (rw is at h))
 
   clause : IsClause rows p.number → HasOther (child_trees rows x) → ⊥
   clause is_clause h = elim (rw trees at h) [ inl a ↦ (let never = rw is_clause.clause at a in cc) | inr b ↦ b ]
@@ -31,14 +30,17 @@ module _ (rows : List Row) (x : Child) (p : Predicate) (is : x ≡ child.Node (n
       by true e = absurd (never (record { within = lt; clause = e }))
       by false e = rw e refl
 
+pub typed-requires : goal.typed-requires
+typed-requires c = rw c.in-Stored.is at c.requires.fit
+
 pub as_clause-requires : goal.as_clause-requires
-as_clause-requires c = inside _ _ c.predicate.result (c.in-Node.is ∙ ap child.Node c.predicate.ensures) c.requires.item
+as_clause-requires c = inside _ _ c.typed.result (c.in-Stored.is ∙ ap child.Stored c.typed.ensures) c.requires.item
 
 pub returns-in-Some-clause-ok : goal.returns-in-Some-clause-ok
 returns-in-Some-clause-ok c =
-    clause _ _ c.predicate.result (c.in-Node.is ∙ ap child.Node c.predicate.ensures) (rw c.in-Some.ensures.0 at c.in-Some.ensures.1)
+    clause _ _ c.typed.result (c.in-Stored.is ∙ ap child.Stored c.typed.ensures) (rw c.in-Some.ensures.0 at c.in-Some.ensures.1)
 
 pub returns-in-None-clause-err : goal.returns-in-None-clause-err
 returns-in-None-clause-err c =
-    let is = c.in-Node.is ∙ ap child.Node c.predicate.ensures in
-    other _ _ c.predicate.result is (inside _ _ c.predicate.result is c.requires.item) c.in-None.ensures
+    let is = c.in-Stored.is ∙ ap child.Stored c.typed.ensures in
+    other _ _ c.typed.result is (inside _ _ c.typed.result is c.requires.item) c.in-None.ensures

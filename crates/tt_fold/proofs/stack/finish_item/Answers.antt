@@ -1,17 +1,15 @@
-use Rattle.std.proofs.lemmas.Result.{err_from_is_err_and}
-use Rattle.tt_fold.proofs.ItemSteps.{finish_none, finish_fails_step, finish_ok}
+use Rattle.std.proofs.Common.{refl}
+use Rattle.std.proofs.lemmas.Bool.{false≢true}
+use Rattle.tt_fold.proofs.ItemSteps.{finish_hook, finish_none}
 use Rattle.tt_fold.proofs.stack.finish_item.Goals as goal
 
-pub returns-in-None : goal.returns-in-None
-returns-in-None g c = finish_none _ c.requires.whole c.requires.before c.in-None.ensures c.requires.owned c.requires.rebuilt
+pub core_after_term-requires-clause-hooked : goal.core_after_term-requires-clause-hooked
+core_after_term-requires-clause-hooked g c = c.if-is_hooked.ensures.0 refl
 
-pub returns-in_err-new-in-Some : goal.returns-in_err-new-in-Some
-returns-in_err-new-in-Some g c =
-    let p = err_from_is_err_and c.from_residual.result c.from_residual.ensures.1 in
-    let d = c.in_err-new-in-Some.ensures in
-    rw (p.1, p.2) (finish_fails_step _ _ _ c.requires.whole c.requires.before c.in-Some.ensures c.term_in.ensures.same d.extends d.is_owned d.outcome)
+pub returns-then-is_hooked : goal.returns-then-is_hooked
+returns-then-is_hooked g c =
+    finish_hook c.args.rebuilt c.args.before c.requires.before (c.if-is_hooked.ensures.0 refl) c.core_after_term.ensures
 
-pub returns-in_ok-new-in-Some : goal.returns-in_ok-new-in-Some
-returns-in_ok-new-in-Some g c =
-    let d = c.in_ok-new-in-Some.ensures in
-    finish_ok _ _ _ _ c.requires.whole c.requires.before c.in-Some.ensures c.term_in.ensures.same c.as_item.ensures.same c.as_item.ensures.like d.extends d.is_owned d.outcome.0 d.outcome.1
+pub returns-else-is_hooked : goal.returns-else-is_hooked
+returns-else-is_hooked g c =
+    finish_none c.args.before c.requires.before (λ hook. false≢true (c.if-is_hooked.ensures.1 hook)) c.requires.owned c.requires.rebuilt

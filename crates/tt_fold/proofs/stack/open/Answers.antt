@@ -1,5 +1,7 @@
+use Rattle.std.proofs.Common.{sym}
 use Rattle.tt_fold.proofs.ItemSteps.{open_list}
 use Rattle.tt_fold.proofs.stack.open.Goals as goal
 
-pub returns-in-Some : goal.returns-in-Some
-returns-in-Some g c = open_list _ _ _ c.in-Some.ensures c.requires.owned c.list_frame.ensures
+pub returns-then-has_items : goal.returns-then-has_items
+returns-then-has_items g c =
+    open_list c.args.handle c.list_frame.result (sym c.if-has_items.ensures) c.requires.owned c.list_frame.ensures

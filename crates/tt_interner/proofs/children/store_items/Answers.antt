@@ -14,7 +14,7 @@ store-requires g c = subst (λ cs. AreParts (size c.args.cx.now.rows) (children_
 pub returns-in_err-items : goal.returns-in_err-items
 returns-in_err-items g c =
     let p = err_from_is_err_and c.from_residual.result c.from_residual.ensures.1 in
-    rw (p.1, p.2) (StoresList-memory _ g.T.ListItem.sort c.args.children.now (omega arith))
+    rw (p.1, p.2) (StoresList-memory _ g.T.ListItem.table c.args.children.now (omega arith))
 
 pub returns : goal.returns
-returns g c = subst (StoresList c.store.result _ _ g.T.ListItem.sort) c.in_ok-items.ensures c.store.ensures
+returns g c = subst (StoresList c.store.result _ _ g.T.ListItem.table) c.in_ok-items.ensures c.store.ensures

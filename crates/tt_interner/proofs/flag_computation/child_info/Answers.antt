@@ -1,13 +1,12 @@
--- by the child
-use Rattle.tt_kinds.specs.Parts.{node_table, node_number, list_table, list_number}
+-- by the table
+use Rattle.tt_kinds.specs.TermTable.{term_table}
 use Rattle.tt_interner.specs.Rows.{meaning}
-use Rattle.tt_interner.proofs.InfoLaws.{infos_stored}
+use Rattle.tt_interner.proofs.InfoLaws.{infos_stored, terms_keep_info}
 use Rattle.tt_interner.proofs.flag_computation.child_info.Goals as goal
 
-pub returns-in-Node : goal.returns-in-Node
-returns-in-Node c = let node = c.in-Node.node in
-    rw c.in-Node.is (infos_stored (meaning c.args.cx.now.rows) _ (node_table node) (node_number node) c.node_info.ensures)
+pub info_in-requires-clause-kept : goal.info_in-requires-clause-kept
+info_in-requires-clause-kept c = rw c.table.ensures (terms_keep_info c.in-Stored.stored.table)
 
-pub returns-in-List : goal.returns-in-List
-returns-in-List c = let list = c.in-List.list in
-    rw c.in-List.is (infos_stored (meaning c.args.cx.now.rows) _ (list_table list) (list_number list) c.list_info.ensures)
+pub returns-in-Stored : goal.returns-in-Stored
+returns-in-Stored c = let stored = c.in-Stored.stored in
+    rw c.in-Stored.is (infos_stored (meaning c.args.cx.now.rows) _ (term_table stored.table) stored.number (rw c.table.ensures at c.info_in.ensures))

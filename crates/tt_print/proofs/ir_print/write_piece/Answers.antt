@@ -18,14 +18,8 @@ returns-in-Region c =
     rw c.in-Region.is
     (opens-as rows _ _ _ _ _ _ _ 0 _ refl (omega arith) (opens-then rows tt _ _ _ _ _ _ _ _ _ written (opens-written rows _ _ _ _ _ (c.write_region.ensures c.args.piece.now.style))))
 
-pub returns-in-Node : goal.returns-in-Node
+pub returns-in-Stored : goal.returns-in-Stored
 unfolding fill_all
-returns-in-Node c =
+returns-in-Stored c =
     let written = c.in_ok-write_place.ensures in
-    rw c.in-Node.is (opens-then c.args.cx.now.rows tt _ _ _ _ _ _ _ _ _ written c.write_node.ensures)
-
-pub returns-in-List : goal.returns-in-List
-unfolding fill_all
-returns-in-List c =
-    let written = c.in_ok-write_place.ensures in
-    rw c.in-List.is (opens-then c.args.cx.now.rows tt _ _ _ _ _ _ _ _ _ written (opens-added c.args.cx.now.rows _ _ _ _ _ _ c.push_list.ensures))
+    rw c.in-Stored.is (opens-then c.args.cx.now.rows tt _ _ _ _ _ _ _ _ _ written c.write_row.ensures)

@@ -8,11 +8,8 @@ use Rattle.tt_visit.proofs.stored.begin_child.Goals as goal
 pub visit_region-requires-clause-region : goal.visit_region-requires-clause-region
 visit_region-requires-clause-region g c = let parts = rw c.in-Region.is at c.requires.child in parts.0
 
-pub begin_node-requires-clause-node : goal.begin_node-requires-clause-node
-begin_node-requires-clause-node g c = let parts = rw c.in-Node.is at c.requires.child in parts.0
-
-pub begin_list-requires-clause-list : goal.begin_list-requires-clause-list
-begin_list-requires-clause-list g c = let parts = rw c.in-List.is at c.requires.child in parts.0
+pub begin_stored-requires-clause-handle : goal.begin_stored-requires-clause-handle
+begin_stored-requires-clause-handle g c = let parts = rw c.in-Stored.is at c.requires.child in parts.0
 
 pub returns-in-Absent-clause-begun : goal.returns-in-Absent-clause-begun
 unfolding fill fill_all
@@ -26,12 +23,7 @@ pub returns-in-Continue-clause-begun : goal.returns-in-Continue-clause-begun
 unfolding fill fill_all
 returns-in-Continue-clause-begun g c = rw c.in-Region.is (one_seen (region_seen (root-region _ _) c.in-Continue.ensures.result) all_seen)
 
-pub returns-in-Node-clause-begun : goal.returns-in-Node-clause-begun
+pub returns-in-Stored-clause-begun : goal.returns-in-Stored-clause-begun
 unfolding fill fill_all
-returns-in-Node-clause-begun g c =
-    rw c.in-Node.is (begun-weaker _ _ _ c.begin_node.result c.begin_node.ensures.begun (λ _ h. one_seen h all_seen) (λ b _ h. first_broke h) (omega arith) (omega arith))
-
-pub returns-in-List-clause-begun : goal.returns-in-List-clause-begun
-unfolding fill fill_all
-returns-in-List-clause-begun g c =
-    rw c.in-List.is (begun-weaker _ _ _ c.begin_list.result c.begin_list.ensures.begun (λ _ h. one_seen h all_seen) (λ b _ h. first_broke h) (omega arith) (omega arith))
+returns-in-Stored-clause-begun g c =
+    rw c.in-Stored.is (begun-weaker _ _ _ c.begin_stored.result c.begin_stored.ensures.begun (λ _ h. one_seen h all_seen) (λ b _ h. first_broke h) (omega arith) (omega arith))

@@ -10,7 +10,7 @@ use Rattle.std.proofs.lemmas.Bool.{true≢false}
 use Rattle.unify.proofs.FormEqualities.{parts_met}
 use Rattle.unify.proofs.MismatchLaws.{other_kind, terms_alike}
 use Rattle.unify.proofs.PairLaws.{equates_pushed}
-use Rattle.unify.proofs.SolutionLaws.{node_tree}
+use Rattle.unify.proofs.SolutionLaws.{stored_tree}
 use Rattle.unify.proofs.pairs.push_parts.Goals.{then-not-are_like-via-then-not-are_like}
 use Rattle.unify.proofs.pairs.push_parts.Goals.{then-not-are_like-via-else-not-are_like+then-ne}
 use Rattle.unify.proofs.pairs.push_parts.Goals as goal
@@ -32,7 +32,7 @@ returns-clause-general c = λ ρ same equates.
     let m = meaning c.args.cx.now.rows in
     let both = parts_met ρ m c.args.left c.args.right c.node_kind-left.result c.node_kind-right.result c.with_parts.result c.parts-old.result c.parts-new.result
     c.parts-old.ensures c.parts-new.ensures (c.are_like.ensures.0 c.if-not-are_like.false) c.with_parts.ensures.form (sym c.ne.ensures ∙ c.if-ne.false)
-    (node_tree m c.args.left _ c.node_kind-left.ensures.means) (node_tree m c.args.right _ c.node_kind-right.ensures.means) same in
+    (stored_tree m c.args.left _ c.node_kind-left.ensures.means) (stored_tree m c.args.right _ c.node_kind-right.ensures.means) same in
     let first = equates_pushed ρ c.args.cx.now c.args.pairs.now.items c.push.new.self.items c.parts-old.result.second c.parts-new.result.second c.in_ok-push.ensures.items equates both.1 in
     equates_pushed ρ c.args.cx.now c.push.new.self.items c.push-2.new.self.items c.parts-old.result.first c.parts-new.result.first c.in_ok-push-2.ensures.items first both.0
 
@@ -41,7 +41,7 @@ returns-then-not-are_like-clause-mismatch c = λ is ρ types leaves leaves' same
     let m = meaning c.args.cx.now.rows in
     let alike = terms_alike c.args.cx.now.rows c.are_rows.ensures.are ρ types c.args.left c.args.right c.node_kind-left.result c.node_kind-right.result c.parts-old.result c.parts-new.result
     c.parts-old.ensures c.parts-new.ensures c.node_kind-left.ensures.parts c.node_kind-right.ensures.parts
-    (node_tree m c.args.left _ c.node_kind-left.ensures.means) (node_tree m c.args.right _ c.node_kind-right.ensures.means) leaves leaves' same in
+    (stored_tree m c.args.left _ c.node_kind-left.ensures.means) (stored_tree m c.args.right _ c.node_kind-right.ensures.means) leaves leaves' same in
     elim c.then-not-are_like.branch [
       | then-not-are_like-via-then-not-are_like w ↦ true≢false (sym (c.are_like.ensures.1 alike.0) ∙ w.if-not-are_like.true)
       | then-not-are_like-via-else-not-are_like+then-ne w ↦

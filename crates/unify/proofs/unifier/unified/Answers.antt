@@ -13,15 +13,15 @@ use Rattle.unify.proofs.unifier.unified.Goals as goal
 pub loop-init : goal.loop-init
 loop-init c = record {
   extends = Extends-refl c.args.cx.now;
-  pairs = pairs_pushed c.args.cx.now c.new-pairs.result.items c.push.new.self.items _ _ c.in_ok-push.ensures.items
-      (subst (AreOwned pair_shape c.args.cx.now) (sym c.new-pairs.ensures.items) tt) (c.requires.left, tt) (c.requires.right, tt);
+  pairs = pairs_pushed c.args.cx.now c.new-pairs.result.items c.push.new.self.items c.child.result c.child-2.result c.in_ok-push.ensures.items
+      (subst (AreOwned pair_shape c.args.cx.now) (sym c.new-pairs.ensures.items) tt) (rw c.child.ensures (c.requires.left, tt)) (rw c.child-2.ensures (c.requires.right, tt));
   refined = refined_itself c.args.cx.now c.args.entries.items c.requires.table;
   nonground = subst (λ xs. ListsNonground c.args.cx.now xs c.in_ok-nonground.nonground.items) c.as_slice.ensures.value c.in_ok-nonground.ensures.lists;
   len = refl;
   general = λ ρ solves equal. record {
     solves = solves;
-    equates = equates_pushed ρ c.args.cx.now c.new-pairs.result.items c.push.new.self.items _ _ c.in_ok-push.ensures.items
-        (subst (EquatesAll ρ c.args.cx.now) (sym c.new-pairs.ensures.items) tt) (types_met ρ c.args.cx.now c.args.left c.args.right equal);
+    equates = equates_pushed ρ c.args.cx.now c.new-pairs.result.items c.push.new.self.items c.child.result c.child-2.result c.in_ok-push.ensures.items
+        (subst (EquatesAll ρ c.args.cx.now) (sym c.new-pairs.ensures.items) tt) (rw (c.child.ensures, c.child-2.ensures) (types_met ρ c.args.cx.now c.args.left c.args.right equal));
   };
 }
 

@@ -3,7 +3,7 @@ use Rattle.std.proofs.Common.{sym, ◌∙◌}
 use Rattle.std.proofs.lemmas.Result.{err_from_is_err_and}
 use Rattle.unify.proofs.MismatchLaws.{other_child}
 use Rattle.unify.proofs.PairMismatches.{condition_met, list_mismatch, lists_mismatch, other_mismatch}
-use Rattle.unify.proofs.SolutionLaws.{lists_met, pairs_keep, same_solutions}
+use Rattle.unify.proofs.SolutionLaws.{stored_met, pairs_keep, same_solutions}
 use Rattle.unify.proofs.unifier.unify_pair.Goals as goal
 
 pub returns-then-eq-clause-refined : goal.returns-then-eq-clause-refined
@@ -18,13 +18,13 @@ returns-then-eq-clause-general c = same_solutions c.args.cx.now c.args.entries.i
 pub returns-in_ok-push_items-in-Some-as_list-clause-general : goal.returns-in_ok-push_items-in-Some-as_list-clause-general
 returns-in_ok-push_items-in-Some-as_list-clause-general c =
     pairs_keep c.args.cx.now c.args.entries.items _ c.args.pairs.now.items c.push_items.new.pairs.items
-    (λ ρ met solves equates. c.in_ok-push_items-in-Some-as_list.ensures.general ρ (lists_met ρ c.args.cx.now c.args.pair c.in-Some.left c.in-Some-as_list.right c.in-Some.ensures c.in-Some-as_list.ensures met) equates)
+    (λ ρ met solves equates. c.in_ok-push_items-in-Some-as_list.ensures.general ρ (stored_met ρ c.args.cx.now c.args.pair c.in-Some.left c.in-Some-as_list.right c.in-Some.ensures.0 c.in-Some-as_list.ensures.0 met) equates)
 
 pub returns-in_err-push_items-in-Some-as_list-clause-mismatch : goal.returns-in_err-push_items-in-Some-as_list-clause-mismatch
 returns-in_err-push_items-in-Some-as_list-clause-mismatch c =
     let p = err_from_is_err_and c.from_residual.result c.from_residual.ensures.1 in
     rw (p.1, p.2) (λ mismatch.
-    lists_mismatch c.args.cx.now c.args.entries.items c.args.pairs.now.items c.args.pair c.in-Some.left c.in-Some-as_list.right c.in-Some.ensures c.in-Some-as_list.ensures
+    lists_mismatch c.args.cx.now c.args.entries.items c.args.pairs.now.items c.args.pair c.in-Some.left c.in-Some-as_list.right c.in-Some.ensures.0 c.in-Some-as_list.ensures.0
     (c.in_err-push_items-in-Some-as_list.ensures.mismatch mismatch))
 
 pub returns-in-None-as_list-clause-mismatch : goal.returns-in-None-as_list-clause-mismatch

@@ -51,8 +51,8 @@ returns-clause-general c =
     pairs_keep c.args.cx.now c.args.entries.items _ c.args.pairs.now.items c.if-is_none.pairs.items
     (λ ρ met solves equates. elim c.if-is_none.branch [
       | then-is_none+in_ok-push_parts w ↦ subst (λ (v : Vec Pair Global). EquatesAll ρ c.args.cx.now v.items) (sym w.pairs-is) (w.in_ok-push_parts.ensures.general ρ
-          (looked_up_met c.args.cx.now c.args.entries.items c.as_slice.result.now c.as_slice-2.result.now c.args.left c.args.right c.looked_up-left.result c.looked_up-right.result
-          c.as_slice.ensures.value c.as_slice-2.ensures.value c.looked_up-left.ensures.same c.looked_up-right.ensures.same ρ solves met) equates)
+          (rw (w.any.ensures, w.any-then-is_none.ensures) (looked_up_met c.args.cx.now c.args.entries.items c.as_slice.result.now c.as_slice-2.result.now c.args.left c.args.right c.looked_up-left.result c.looked_up-right.result
+          c.as_slice.ensures.value c.as_slice-2.ensures.value c.looked_up-left.ensures.same c.looked_up-right.ensures.same ρ solves met)) equates)
       | else-is_none w ↦ subst (λ (v : Vec Pair Global). EquatesAll ρ c.args.cx.now v.items) (sym w.pairs-is) equates
     ])
 
@@ -81,7 +81,8 @@ pub returns-in_err-push_parts-clause-mismatch : goal.returns-in_err-push_parts-c
 returns-in_err-push_parts-clause-mismatch c =
     let p = err_from_is_err_and c.from_residual-in_err-push_parts.result c.from_residual-in_err-push_parts.ensures.1 in
     rw (p.1, p.2) (λ mismatch.
-    types_mismatch c.args.cx.now c.args.entries.items c.args.pairs.now.items c.args.left c.args.right c.looked_up-left.result c.looked_up-right.result (c.in_err-push_parts.ensures.mismatch mismatch)
+    types_mismatch c.args.cx.now c.args.entries.items c.args.pairs.now.items c.args.left c.args.right c.looked_up-left.result c.looked_up-right.result
+    (rw (c.any.ensures, c.any-then-is_none.ensures) at (c.in_err-push_parts.ensures.mismatch mismatch))
     (foreign_by c.args.cx.now c.args.entries.items c.as_slice.result.now c.as_slice-3.result.now (tree_in c.args.cx.now.rows (ty_shape c.looked_up-left.result))
     c.as_slice.ensures.value c.as_slice-3.ensures.value c.requires.table.idempotent c.looked_up-left.ensures.unbound c.in_default.ensures.foreign)
     (foreign_by c.args.cx.now c.args.entries.items c.as_slice-2.result.now c.as_slice-4.result.now (tree_in c.args.cx.now.rows (ty_shape c.looked_up-right.result))

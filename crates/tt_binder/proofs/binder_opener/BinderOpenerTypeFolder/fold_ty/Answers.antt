@@ -3,14 +3,15 @@ use Rattle.std.proofs.lemmas.Result.{err_from_is_err_and}
 use Rattle.tt_kinds.specs.Label.{type_sort, const_sort}
 use Rattle.tt_kinds.specs.Bound.{ty_entry}
 use Rattle.tt_kinds.specs.declared.table.Table.TheVariants.{Types}
-use Rattle.tt_kinds.specs.declared.parts.Node.TheVariants as node
+use Rattle.tt_kinds.specs.Handle.{any_handle}
+use Rattle.tt_kinds.specs.declared.table.TermTable.TheVariants as terms_of
 use Rattle.tt_kinds.specs.Kinds.{ty_shape, const_shape}
 use Rattle.tt_interner.specs.Rows.{meaning}
 use Rattle.tt_fold.specs.Steps.{tree_in}
 use Rattle.tt_fold.specs.Remember.{remembered}
 use Rattle.tt_fold.proofs.PartLaws.{in_range}
 use Rattle.tt_fold.proofs.TypeLaws.{part-type}
-use Rattle.tt_fold.proofs.FoldSteps.{node_is_kind}
+use Rattle.tt_fold.proofs.FoldSteps.{stored_is_kind}
 use Rattle.tt_fold.proofs.BoundLaws.{type_tree, type_other, bound_outer, term_taken}
 use Rattle.tt_binder.specs.ArgumentLaws.{OwnsShifts-still}
 use Rattle.tt_binder.specs.OpenerLaws.{opener-kept, opening-still}
@@ -21,11 +22,14 @@ pub returns-then-not-opens-clause-result : goal.returns-then-not-opens-clause-re
 returns-then-not-opens-clause-result g c = (tt, left_step _ _ (rw c.outer_exclusive_binder.ensures at c.if-not-opens.ensures.1))
 
 pub node_kind-kind-requires-clause-owned : goal.node_kind-kind-requires-clause-owned
-node_kind-kind-requires-clause-owned g c = in_range c.args.cx.now.rows Types c.args.ty.number c.requires.ty
+node_kind-kind-requires-clause-owned g c = rw c.any.ensures (in_range c.args.cx.now.rows Types c.args.ty.number c.requires.ty)
+
+pub node_kind-kind-requires-clause-has_kind : goal.node_kind-kind-requires-clause-has_kind
+node_kind-kind-requires-clause-has_kind g c = rw c.any.ensures refl
 
 pub opened_ty-requires-clause-outer : goal.opened_ty-requires-clause-outer
 opened_ty-requires-clause-outer g c =
-    let tree = node_is_kind c.args.cx.now.rows (node.Ty c.args.ty) c.node_kind-kind.result c.node_kind-kind.ensures.means in
+    let tree = stored_is_kind c.args.cx.now.rows (any_handle terms_of.Types c.args.ty) c.node_kind-kind.result (rw c.any.ensures at c.node_kind-kind.ensures.means) in
     let far = rw c.outer_exclusive_binder.ensures at (c.if-not-opens.ensures.0 refl) in
     let is = type_tree (meaning c.args.cx.now.rows) c.node_kind-kind.result c.in-Some.index c.in-Some.bound_ty (sym c.bound_ty.ensures ∙ c.in-Some.is) in
     bound_outer (meaning c.args.cx.now.rows) (record { amount = 0; under = c.args.self.now.binders_passed }) type_sort c.in-Some.index (ty_entry c.in-Some.bound_ty) (tree_in c.args.cx.now.rows (ty_shape c.args.ty)) (tree ∙ is) far
@@ -40,7 +44,7 @@ returns-in_err-opened-in-Some-clause-owned g c =
 pub returns-in_err-opened-in-Some-clause-result : goal.returns-in_err-opened-in-Some-clause-result
 returns-in_err-opened-in-Some-clause-result g c =
     let p = err_from_is_err_and c.from_residual.result c.from_residual.ensures.1 in
-    let tree = node_is_kind c.args.cx.now.rows (node.Ty c.args.ty) c.node_kind-kind.result c.node_kind-kind.ensures.means in
+    let tree = stored_is_kind c.args.cx.now.rows (any_handle terms_of.Types c.args.ty) c.node_kind-kind.result (rw c.any.ensures at c.node_kind-kind.ensures.means) in
     let is = type_tree (meaning c.args.cx.now.rows) c.node_kind-kind.result c.in-Some.index c.in-Some.bound_ty (sym c.bound_ty.ensures ∙ c.in-Some.is) in
     rw (p.1, p.2) (c.opened_ty.ensures.descents, c.opened_ty.ensures.shift_descents, refuses_at _ _ _ _ _ _ (tree ∙ is) c.in_err-opened-in-Some.ensures.result)
 
@@ -59,7 +63,7 @@ returns-in_ok-opened-in-Some-clause-result g c =
     let grows = c.opened_ty.ensures.extends.rows in
     let owned = c.requires.owned in
     let same = g.met.S.SliceLike.still_items old new self.args grows owned.0 in
-    let tree = node_is_kind c.args.cx.now.rows (node.Ty c.args.ty) c.node_kind-kind.result c.node_kind-kind.ensures.means in
+    let tree = stored_is_kind c.args.cx.now.rows (any_handle terms_of.Types c.args.ty) c.node_kind-kind.result (rw c.any.ensures at c.node_kind-kind.ensures.means) in
     let is = type_tree (meaning c.args.cx.now.rows) c.node_kind-kind.result c.in-Some.index c.in-Some.bound_ty (sym c.bound_ty.ensures ∙ c.in-Some.is) in
     let h = c.in_ok-opened-in-Some.ensures.result in (
       h.0,
@@ -74,9 +78,9 @@ returns-in-Some-look_up-clause-result g c = (c.in-Some-look_up.ensures.trees.0, 
 
 pub returns-in-None-look_up-clause-result : goal.returns-in-None-look_up-clause-result
 returns-in-None-look_up-clause-result g c =
-    let tree = node_is_kind c.args.cx.now.rows (node.Ty c.args.ty) c.node_kind-kind.result c.node_kind-kind.ensures.means in
+    let tree = stored_is_kind c.args.cx.now.rows (any_handle terms_of.Types c.args.ty) c.node_kind-kind.result (rw c.any.ensures at c.node_kind-kind.ensures.means) in
     let far = rw c.outer_exclusive_binder.ensures at (c.if-not-opens.ensures.0 refl) in
-    let other = type_other (meaning c.args.cx.now.rows) c.node_kind-kind.result c.node_kind-kind.ensures.table (sym c.bound_ty.ensures ∙ c.in-None.is) in
+    let other = type_other (meaning c.args.cx.now.rows) c.node_kind-kind.result (rw c.any.ensures at c.node_kind-kind.ensures.table) (sym c.bound_ty.ensures ∙ c.in-None.is) in
     let t = tree_in c.args.cx.now.rows (ty_shape c.args.ty) in
     let k = c.args.self.now.binders_passed in
     let taken = term_taken k k t (part-type c.args.cx.now.rows Types c.args.ty.number c.requires.ty) (rw tree other) far in

@@ -1,35 +1,23 @@
-use Rattle.std.proofs.Common.{[], ◌∷◌, refl}
-use Rattle.tt_kinds.specs.Label.{type_label}
-use Rattle.tt_kinds.specs.Shape as shape
-use Rattle.tt_kinds.specs.Kinds.{ty_kind_shape, args_shape}
-use Rattle.tt_calls.specs.CallForm.{plain, args_part, item_type}
-use Rattle.tt_calls.specs.Told.{told_all, HasFullTable}
-use Rattle.tt_calls.specs.Means.{number_at}
-use Rattle.tt_calls.proofs.PartLaws.{kind-passed, plain-kind, parts-one, unbuilt-first}
-use Rattle.tt_calls.proofs.ResultLaws.{passed}
-use Rattle.tt_calls.proofs.RoomLaws.{first-room}
+use Rattle.std.proofs.Common.{refl}
 use Rattle.tt_calls.proofs.build.types.item_kind.Goals as goal
 
-pub returns-in_err-args-clause-kind : goal.returns-in_err-args-clause-kind
-returns-in_err-args-clause-kind c =
-    let e = told_all c.args.cx.now.rows c.args.earlier.now in
-    let part = args_part c.args.args.now in
-    kind-passed c.build_arg_list.new.cx e (plain (type_label (item_type (number_at e) c.args.item)) (part ∷ [])) ty_kind_shape c.from_residual.result c.in_err-args.field-0.0 c.from_residual.ensures.1
-    (unbuilt-first (HasFullTable c.build_arg_list.new.cx) e part [] c.in_err-args.field-0.0 c.in_err-args.ensures.list.err)
+pub returns-in-Adt : goal.returns-in-Adt
+returns-in-Adt c = λ rows. rw (c.in-Adt.is, c.from_number.ensures, c.number_at.ensures rows) refl
 
-pub returns-clause-kind : goal.returns-clause-kind
-returns-clause-kind c =
-    let e = told_all c.args.cx.now.rows c.args.earlier.now in
-    let part = args_part c.args.args.now in
-    record {
-      ok = rw (c.type_of_item.ensures c.args.cx.now.rows)
-          (plain-kind c.build_arg_list.new.cx e (type_label (item_type (number_at e) c.args.item)) (part ∷ []) (type_label (item_type (number_at e) c.args.item)) (shape.also (args_shape c.in_ok-args.args) shape.none)
-          (parts-one c.build_arg_list.new.cx e part (args_shape c.in_ok-args.args) c.in_ok-args.ensures.list.ok) tt refl);
-      err = tt;
-    }
+pub returns-in-FnDef : goal.returns-in-FnDef
+returns-in-FnDef c = λ rows. rw (c.in-FnDef.is, c.from_number-in-FnDef.ensures, c.number_at-in-FnDef.ensures rows) refl
 
-pub returns-in_err-args-clause-room : goal.returns-in_err-args-clause-room
-returns-in_err-args-clause-room c =
-    let e = told_all c.args.cx.now.rows c.args.earlier.now in
-    passed c.from_residual.result c.in_err-args.field-0.0 _ c.from_residual.ensures.1
-    (first-room c.build_arg_list.new.cx.rows e (type_label (item_type (number_at e) c.args.item)) (args_part c.args.args.now) [] c.in_err-args.field-0.0 c.in_err-args.ensures.room)
+pub returns-in-Closure : goal.returns-in-Closure
+returns-in-Closure c = λ rows. rw (c.in-Closure.is, c.from_number-in-Closure.ensures, c.number_at-in-Closure.ensures rows) refl
+
+pub returns-in-CoroutineClosure : goal.returns-in-CoroutineClosure
+returns-in-CoroutineClosure c = λ rows. rw (c.in-CoroutineClosure.is, c.from_number-id.ensures, c.number_at-in-CoroutineClosure.ensures rows) refl
+
+pub returns-in-Coroutine : goal.returns-in-Coroutine
+returns-in-Coroutine c = λ rows. rw (c.in-Coroutine.is, c.from_number-in-Coroutine.ensures, c.number_at-in-Coroutine.ensures rows) refl
+
+pub returns-in-CoroutineWitness : goal.returns-in-CoroutineWitness
+returns-in-CoroutineWitness c = λ rows. rw (c.in-CoroutineWitness.is, c.from_number-in-CoroutineWitness.ensures, c.number_at-in-CoroutineWitness.ensures rows) refl
+
+pub returns-in-Alias : goal.returns-in-Alias
+returns-in-Alias c = λ rows. rw (c.in-Alias.is, c.alias_kind-kind.ensures rows) refl

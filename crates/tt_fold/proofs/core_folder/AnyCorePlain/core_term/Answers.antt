@@ -1,33 +1,35 @@
-use Rattle.std.proofs.Common.{refl}
-use Rattle.tt_kinds.specs.Kinds.{clauses_shape, const_shape, predicate_shape, ty_shape}
-use Rattle.tt_kinds.specs.declared.parts.Node.TheVariants as node
+use Rattle.tt_kinds.specs.declared.table.TermTable.TheVariants as terms_of
 use Rattle.tt_fold.proofs.CoreSteps.{asks}
 use Rattle.tt_fold.proofs.core_folder.AnyCorePlain.core_term.Goals as goal
 
-pub returns-in-Ty-clause-goes : goal.returns-in-Ty-clause-goes
-returns-in-Ty-clause-goes g c =
-    rw c.ty_step.ensures (asks node.Ty ty_shape (λ _. refl) (λ _ _. refl) g.F.TypeFolder.hooks c.in-Ty.ty c.fold_ty.result c.in-Ty.is c.fold_ty.ensures.extends c.fold_ty.ensures.owned c.fold_ty.ensures.result)
+pub returns-in-Types-clause-goes : goal.returns-in-Types-clause-goes
+returns-in-Types-clause-goes g c =
+    let h = c.fold_ty.ensures in
+    rw c.step_of.ensures (asks terms_of.Types g.F.TypeFolder.hooks c.typed.result c.fold_ty.result c.typed.ensures h.extends h.owned h.result)
 
-pub returns-in-Const-clause-goes : goal.returns-in-Const-clause-goes
-returns-in-Const-clause-goes g c =
-    rw c.const_step.ensures (asks node.Const const_shape (λ _. refl) (λ _ _. refl) g.F.TypeFolder.hooks c.in-Const.constant c.fold_const.result c.in-Const.is c.fold_const.ensures.extends c.fold_const.ensures.owned c.fold_const.ensures.result)
+pub returns-in-Types-clause-still : goal.returns-in-Types-clause-still
+returns-in-Types-clause-still g c = λ nothing. c.fold_ty.ensures.still (rw c.typed.ensures at nothing)
 
-pub returns-in-Predicate-clause-goes : goal.returns-in-Predicate-clause-goes
-returns-in-Predicate-clause-goes g c =
-    rw c.predicate_step.ensures (asks node.Predicate predicate_shape (λ _. refl) (λ _ _. refl) g.F.TypeFolder.hooks c.in-Predicate.predicate c.fold_predicate.result c.in-Predicate.is c.fold_predicate.ensures.extends c.fold_predicate.ensures.owned c.fold_predicate.ensures.result)
+pub returns-in-Consts-clause-goes : goal.returns-in-Consts-clause-goes
+returns-in-Consts-clause-goes g c =
+    let h = c.fold_const.ensures in
+    rw c.step_of-in-Consts.ensures (asks terms_of.Consts g.F.TypeFolder.hooks c.typed-in-Consts.result c.fold_const.result c.typed-in-Consts.ensures h.extends h.owned h.result)
 
-pub returns-in-Clauses-clause-goes : goal.returns-in-Clauses-clause-goes
-returns-in-Clauses-clause-goes g c =
-    rw c.clauses_step.ensures (asks node.Clauses clauses_shape (λ _. refl) (λ _ _. refl) g.F.TypeFolder.hooks c.in-Clauses.clauses c.fold_clauses.result c.in-Clauses.is c.fold_clauses.ensures.extends c.fold_clauses.ensures.owned c.fold_clauses.ensures.result)
+pub returns-in-Consts-clause-still : goal.returns-in-Consts-clause-still
+returns-in-Consts-clause-still g c = λ nothing. c.fold_const.ensures.still (rw c.typed-in-Consts.ensures at nothing)
 
-pub returns-in-Ty-clause-still : goal.returns-in-Ty-clause-still
-returns-in-Ty-clause-still g c = λ h. c.fold_ty.ensures.still (rw c.in-Ty.is at h)
+pub returns-in-Predicates-clause-goes : goal.returns-in-Predicates-clause-goes
+returns-in-Predicates-clause-goes g c =
+    let h = c.fold_predicate.ensures in
+    rw c.step_of-in-Predicates.ensures (asks terms_of.Predicates g.F.TypeFolder.hooks c.typed-in-Predicates.result c.fold_predicate.result c.typed-in-Predicates.ensures h.extends h.owned h.result)
 
-pub returns-in-Const-clause-still : goal.returns-in-Const-clause-still
-returns-in-Const-clause-still g c = λ h. c.fold_const.ensures.still (rw c.in-Const.is at h)
+pub returns-in-Predicates-clause-still : goal.returns-in-Predicates-clause-still
+returns-in-Predicates-clause-still g c = λ nothing. c.fold_predicate.ensures.still (rw c.typed-in-Predicates.ensures at nothing)
 
-pub returns-in-Predicate-clause-still : goal.returns-in-Predicate-clause-still
-returns-in-Predicate-clause-still g c = λ h. c.fold_predicate.ensures.still (rw c.in-Predicate.is at h)
+pub returns-in-ClauseLists-clause-goes : goal.returns-in-ClauseLists-clause-goes
+returns-in-ClauseLists-clause-goes g c =
+    let h = c.fold_clauses.ensures in
+    rw c.step_of-in-ClauseLists.ensures (asks terms_of.ClauseLists g.F.TypeFolder.hooks c.typed-in-ClauseLists.result c.fold_clauses.result c.typed-in-ClauseLists.ensures h.extends h.owned h.result)
 
-pub returns-in-Clauses-clause-still : goal.returns-in-Clauses-clause-still
-returns-in-Clauses-clause-still g c = λ h. c.fold_clauses.ensures.still (rw c.in-Clauses.is at h)
+pub returns-in-ClauseLists-clause-still : goal.returns-in-ClauseLists-clause-still
+returns-in-ClauseLists-clause-still g c = λ nothing. c.fold_clauses.ensures.still (rw c.typed-in-ClauseLists.ensures at nothing)

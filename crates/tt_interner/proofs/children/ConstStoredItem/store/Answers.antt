@@ -1,8 +1,8 @@
 -- by the typed call
 use Rattle.std.proofs.Common.{refl, subst}
 use Rattle.std.proofs.lemmas.Result.{err_from_is_err_and}
-use Rattle.tt_kinds.specs.declared.parts.List.TheVariants as stored_list
-use Rattle.tt_kinds.specs.declared.parts.ListSort.TheVariants as sort
+use Rattle.tt_kinds.specs.Handle.{any_handle}
+use Rattle.tt_kinds.specs.declared.table.TermTable.TheVariants as terms_of
 use Rattle.tt_kinds.specs.Shape.{AreParts}
 use Rattle.tt_interner.specs.Rows.{consts_row, size}
 use Rattle.tt_interner.proofs.NodeSteps.{is_row_of_consts, consts_shapes, StoresList-ok, StoresList-err}
@@ -14,7 +14,7 @@ put_consts-requires c = subst (AreParts (size c.args.cx.now.rows)) (consts_shape
 pub returns-in_err-list : goal.returns-in_err-list
 returns-in_err-list c =
     let p = err_from_is_err_and c.from_residual.result c.from_residual.ensures.1 in
-    rw (p.1, p.2) (StoresList-err (λ list. list.number) _ _ sort.Consts (consts_row c.args.items.items) _ (is_row_of_consts c.args.items.items) (λ bad. bad) c.requires _ c.in_err-list.ensures)
+    rw (p.1, p.2) (StoresList-err (λ list. list.number) _ _ terms_of.ConstLists (consts_row c.args.items.items) _ (is_row_of_consts c.args.items.items) (λ bad. bad) c.requires _ c.in_err-list.ensures)
 
 pub returns : goal.returns
-returns c = StoresList-ok (λ list. list.number) _ _ sort.Consts (consts_row c.args.items.items) _ (is_row_of_consts c.args.items.items) (λ bad. bad) c.in_ok-list.list c.in_ok-list.ensures (stored_list.Consts c.in_ok-list.list) refl refl
+returns c = rw c.any.ensures (StoresList-ok (λ list. list.number) _ _ terms_of.ConstLists (consts_row c.args.items.items) _ (is_row_of_consts c.args.items.items) (λ bad. bad) c.in_ok-list.list c.in_ok-list.ensures (any_handle terms_of.ConstLists c.in_ok-list.list) refl refl)

@@ -1,8 +1,8 @@
 -- by the typed call
 use Rattle.std.proofs.Common.{refl, sym, subst, take, length}
 use Rattle.std.proofs.lemmas.Result.{err_from_is_err_and}
-use Rattle.tt_kinds.specs.declared.parts.List.TheVariants as stored_list
-use Rattle.tt_kinds.specs.declared.parts.ListSort.TheVariants as sort
+use Rattle.tt_kinds.specs.Handle.{any_handle}
+use Rattle.tt_kinds.specs.declared.table.TermTable.TheVariants as terms_of
 use Rattle.tt_kinds.specs.Shape.{AreParts}
 use Rattle.tt_kinds.specs.Kinds.{children_shapes}
 use Rattle.tt_interner.specs.Rows.{args_row, size}
@@ -18,12 +18,12 @@ mk_args-requires c =
 pub returns-in_err-args : goal.returns-in_err-args
 returns-in_err-args c =
     let items = take (length c.args.children.now) c.put_items.new.places in
-    let is = subst (IsRowOf sort.Args (args_row items)) c.put_items.ensures (is_row_of_args items) in
+    let is = subst (IsRowOf terms_of.ArgLists (args_row items)) c.put_items.ensures (is_row_of_args items) in
     let p = err_from_is_err_and c.from_residual.result c.from_residual.ensures.1 in
-    rw (p.1, p.2) (StoresList-err (λ list. list.number) _ _ sort.Args (args_row items) _ is (λ bad. bad) c.requires.parts _ c.in_err-args.ensures)
+    rw (p.1, p.2) (StoresList-err (λ list. list.number) _ _ terms_of.ArgLists (args_row items) _ is (λ bad. bad) c.requires.parts _ c.in_err-args.ensures)
 
 pub returns : goal.returns
 returns c =
     let items = take (length c.args.children.now) c.put_items.new.places in
-    let is = subst (IsRowOf sort.Args (args_row items)) c.put_items.ensures (is_row_of_args items) in
-    StoresList-ok (λ list. list.number) _ _ sort.Args (args_row items) _ is (λ bad. bad) c.in_ok-args.args c.in_ok-args.ensures (stored_list.Args c.in_ok-args.args) refl refl
+    let is = subst (IsRowOf terms_of.ArgLists (args_row items)) c.put_items.ensures (is_row_of_args items) in
+    rw c.any.ensures (StoresList-ok (λ list. list.number) _ _ terms_of.ArgLists (args_row items) _ is (λ bad. bad) c.in_ok-args.args c.in_ok-args.ensures (any_handle terms_of.ArgLists c.in_ok-args.args) refl refl)

@@ -1,8 +1,8 @@
 -- by the typed call
 use Rattle.std.proofs.Common.{refl, sym, subst, take, length}
 use Rattle.std.proofs.lemmas.Result.{err_from_is_err_and}
-use Rattle.tt_kinds.specs.declared.parts.List.TheVariants as stored_list
-use Rattle.tt_kinds.specs.declared.parts.ListSort.TheVariants as sort
+use Rattle.tt_kinds.specs.Handle.{any_handle}
+use Rattle.tt_kinds.specs.declared.table.TermTable.TheVariants as terms_of
 use Rattle.tt_kinds.specs.Shape.{AreParts}
 use Rattle.tt_kinds.specs.Kinds.{children_shapes}
 use Rattle.tt_interner.specs.Rows.{tys_row, size}
@@ -18,12 +18,12 @@ mk_tys-requires c =
 pub returns-in_err-tys : goal.returns-in_err-tys
 returns-in_err-tys c =
     let items = take (length c.args.children.now) c.put_items.new.places in
-    let is = subst (IsRowOf sort.Tys (tys_row items)) c.put_items.ensures (is_row_of_tys items) in
+    let is = subst (IsRowOf terms_of.TypeLists (tys_row items)) c.put_items.ensures (is_row_of_tys items) in
     let p = err_from_is_err_and c.from_residual.result c.from_residual.ensures.1 in
-    rw (p.1, p.2) (StoresList-err (λ list. list.number) _ _ sort.Tys (tys_row items) _ is (λ bad. bad) c.requires.parts _ c.in_err-tys.ensures)
+    rw (p.1, p.2) (StoresList-err (λ list. list.number) _ _ terms_of.TypeLists (tys_row items) _ is (λ bad. bad) c.requires.parts _ c.in_err-tys.ensures)
 
 pub returns : goal.returns
 returns c =
     let items = take (length c.args.children.now) c.put_items.new.places in
-    let is = subst (IsRowOf sort.Tys (tys_row items)) c.put_items.ensures (is_row_of_tys items) in
-    StoresList-ok (λ list. list.number) _ _ sort.Tys (tys_row items) _ is (λ bad. bad) c.in_ok-tys.tys c.in_ok-tys.ensures (stored_list.Tys c.in_ok-tys.tys) refl refl
+    let is = subst (IsRowOf terms_of.TypeLists (tys_row items)) c.put_items.ensures (is_row_of_tys items) in
+    rw c.any.ensures (StoresList-ok (λ list. list.number) _ _ terms_of.TypeLists (tys_row items) _ is (λ bad. bad) c.in_ok-tys.tys c.in_ok-tys.ensures (any_handle terms_of.TypeLists c.in_ok-tys.tys) refl refl)

@@ -1,57 +1,58 @@
 -- by the row of the list
 use Rattle.std.proofs.Common.{◌<◌, length, subst}
-use Rattle.tt_kinds.specs.declared.parts.List.TheVariants as stored_list
+use Rattle.tt_kinds.specs.Handle.{any_handle}
+use Rattle.tt_kinds.specs.Parts.{child_in}
+use Rattle.tt_kinds.specs.declared.table.TermTable.TheVariants as terms_of
 use Rattle.tt_interner.specs.Rows.{clauses_row, tys_row, consts_row, args_row, pats_row, existentials_row}
-use Rattle.tt_interner.specs.Children.{ty_child, const_child, arg_child, pat_child, existential_child, clause_child}
-use Rattle.tt_interner.specs.Children.{children_at}
+use Rattle.tt_interner.specs.Children.{arg_child, children_at}
 use Rattle.tt_interner.proofs.NodeSteps.{is_row_of_tys, is_row_of_consts, is_row_of_args, is_row_of_pats}
 use Rattle.tt_interner.proofs.NodeSteps.{is_row_of_existentials, is_row_of_clauses, len_here, child_here}
 use Rattle.tt_interner.proofs.interner.Interner.list_child.Goals as goal
 
 pub item_at-requires : goal.item_at-requires
 item_at-requires c =
-    subst (λ n. c.args.index < n) (len_here _ (stored_list.Tys c.in-Tys.tys) (tys_row c.as_slice.result.now) ty_child c.as_slice.result.now (is_row_of_tys c.as_slice.result.now) c.as_slice.ensures.row)
-    (subst (λ l. c.args.index < length (children_at c.args.self.now.rows l)) c.in-Tys.is c.requires.inside)
+    subst (λ n. c.args.index < n) (len_here _ (any_handle terms_of.TypeLists c.typed.result) (tys_row c.as_slice.result.now) (child_in terms_of.Types) c.as_slice.result.now (is_row_of_tys c.as_slice.result.now) c.as_slice.ensures.row)
+    (subst (λ l. c.args.index < length (children_at c.args.self.now.rows l)) c.typed.ensures c.requires.inside)
 
-pub returns-in-Tys : goal.returns-in-Tys
-returns-in-Tys c = rw c.in-Tys.is (child_here _ (stored_list.Tys c.in-Tys.tys) (tys_row c.as_slice.result.now) ty_child c.as_slice.result.now (is_row_of_tys c.as_slice.result.now) c.as_slice.ensures.row _ _ c.item_at.ensures)
+pub returns-in-TypeLists : goal.returns-in-TypeLists
+returns-in-TypeLists c = rw (c.typed.ensures, c.child.ensures) (child_here _ (any_handle terms_of.TypeLists c.typed.result) (tys_row c.as_slice.result.now) (child_in terms_of.Types) c.as_slice.result.now (is_row_of_tys c.as_slice.result.now) c.as_slice.ensures.row _ _ c.item_at.ensures)
 
-pub item_at-requires-in-Consts : goal.item_at-requires-in-Consts
-item_at-requires-in-Consts c =
-    subst (λ n. c.args.index < n) (len_here _ (stored_list.Consts c.in-Consts.consts) (consts_row c.as_slice-in-Consts.result.now) const_child c.as_slice-in-Consts.result.now (is_row_of_consts c.as_slice-in-Consts.result.now) c.as_slice-in-Consts.ensures.row)
-    (subst (λ l. c.args.index < length (children_at c.args.self.now.rows l)) c.in-Consts.is c.requires.inside)
+pub item_at-requires-in-ConstLists : goal.item_at-requires-in-ConstLists
+item_at-requires-in-ConstLists c =
+    subst (λ n. c.args.index < n) (len_here _ (any_handle terms_of.ConstLists c.typed-in-ConstLists.result) (consts_row c.as_slice-in-ConstLists.result.now) (child_in terms_of.Consts) c.as_slice-in-ConstLists.result.now (is_row_of_consts c.as_slice-in-ConstLists.result.now) c.as_slice-in-ConstLists.ensures.row)
+    (subst (λ l. c.args.index < length (children_at c.args.self.now.rows l)) c.typed-in-ConstLists.ensures c.requires.inside)
 
-pub returns-in-Consts : goal.returns-in-Consts
-returns-in-Consts c = rw c.in-Consts.is (child_here _ (stored_list.Consts c.in-Consts.consts) (consts_row c.as_slice-in-Consts.result.now) const_child c.as_slice-in-Consts.result.now (is_row_of_consts c.as_slice-in-Consts.result.now) c.as_slice-in-Consts.ensures.row _ _ c.item_at-in-Consts.ensures)
+pub returns-in-ConstLists : goal.returns-in-ConstLists
+returns-in-ConstLists c = rw (c.typed-in-ConstLists.ensures, c.child-in-ConstLists.ensures) (child_here _ (any_handle terms_of.ConstLists c.typed-in-ConstLists.result) (consts_row c.as_slice-in-ConstLists.result.now) (child_in terms_of.Consts) c.as_slice-in-ConstLists.result.now (is_row_of_consts c.as_slice-in-ConstLists.result.now) c.as_slice-in-ConstLists.ensures.row _ _ c.item_at-in-ConstLists.ensures)
 
-pub item_at-requires-in-Args : goal.item_at-requires-in-Args
-item_at-requires-in-Args c =
-    subst (λ n. c.args.index < n) (len_here _ (stored_list.Args c.in-Args.args) (args_row c.as_slice-in-Args.result.now) arg_child c.as_slice-in-Args.result.now (is_row_of_args c.as_slice-in-Args.result.now) c.as_slice-in-Args.ensures.row)
-    (subst (λ l. c.args.index < length (children_at c.args.self.now.rows l)) c.in-Args.is c.requires.inside)
+pub item_at-requires-in-ArgLists : goal.item_at-requires-in-ArgLists
+item_at-requires-in-ArgLists c =
+    subst (λ n. c.args.index < n) (len_here _ (any_handle terms_of.ArgLists c.typed-in-ArgLists.result) (args_row c.as_slice-in-ArgLists.result.now) arg_child c.as_slice-in-ArgLists.result.now (is_row_of_args c.as_slice-in-ArgLists.result.now) c.as_slice-in-ArgLists.ensures.row)
+    (subst (λ l. c.args.index < length (children_at c.args.self.now.rows l)) c.typed-in-ArgLists.ensures c.requires.inside)
 
-pub returns-in-Args : goal.returns-in-Args
-returns-in-Args c = rw (c.in-Args.is, c.arg_child.ensures) (child_here _ (stored_list.Args c.in-Args.args) (args_row c.as_slice-in-Args.result.now) arg_child c.as_slice-in-Args.result.now (is_row_of_args c.as_slice-in-Args.result.now) c.as_slice-in-Args.ensures.row _ _ c.item_at-in-Args.ensures)
+pub returns-in-ArgLists : goal.returns-in-ArgLists
+returns-in-ArgLists c = rw (c.typed-in-ArgLists.ensures, c.arg_child.ensures) (child_here _ (any_handle terms_of.ArgLists c.typed-in-ArgLists.result) (args_row c.as_slice-in-ArgLists.result.now) arg_child c.as_slice-in-ArgLists.result.now (is_row_of_args c.as_slice-in-ArgLists.result.now) c.as_slice-in-ArgLists.ensures.row _ _ c.item_at-in-ArgLists.ensures)
 
-pub item_at-requires-in-Pats : goal.item_at-requires-in-Pats
-item_at-requires-in-Pats c =
-    subst (λ n. c.args.index < n) (len_here _ (stored_list.Pats c.in-Pats.pats) (pats_row c.as_slice-in-Pats.result.now) pat_child c.as_slice-in-Pats.result.now (is_row_of_pats c.as_slice-in-Pats.result.now) c.as_slice-in-Pats.ensures.row)
-    (subst (λ l. c.args.index < length (children_at c.args.self.now.rows l)) c.in-Pats.is c.requires.inside)
+pub item_at-requires-in-PatternLists : goal.item_at-requires-in-PatternLists
+item_at-requires-in-PatternLists c =
+    subst (λ n. c.args.index < n) (len_here _ (any_handle terms_of.PatternLists c.typed-in-PatternLists.result) (pats_row c.as_slice-in-PatternLists.result.now) (child_in terms_of.Patterns) c.as_slice-in-PatternLists.result.now (is_row_of_pats c.as_slice-in-PatternLists.result.now) c.as_slice-in-PatternLists.ensures.row)
+    (subst (λ l. c.args.index < length (children_at c.args.self.now.rows l)) c.typed-in-PatternLists.ensures c.requires.inside)
 
-pub returns-in-Pats : goal.returns-in-Pats
-returns-in-Pats c = rw c.in-Pats.is (child_here _ (stored_list.Pats c.in-Pats.pats) (pats_row c.as_slice-in-Pats.result.now) pat_child c.as_slice-in-Pats.result.now (is_row_of_pats c.as_slice-in-Pats.result.now) c.as_slice-in-Pats.ensures.row _ _ c.item_at-in-Pats.ensures)
+pub returns-in-PatternLists : goal.returns-in-PatternLists
+returns-in-PatternLists c = rw (c.typed-in-PatternLists.ensures, c.child-in-PatternLists.ensures) (child_here _ (any_handle terms_of.PatternLists c.typed-in-PatternLists.result) (pats_row c.as_slice-in-PatternLists.result.now) (child_in terms_of.Patterns) c.as_slice-in-PatternLists.result.now (is_row_of_pats c.as_slice-in-PatternLists.result.now) c.as_slice-in-PatternLists.ensures.row _ _ c.item_at-in-PatternLists.ensures)
 
-pub item_at-requires-in-Existentials : goal.item_at-requires-in-Existentials
-item_at-requires-in-Existentials c =
-    subst (λ n. c.args.index < n) (len_here _ (stored_list.Existentials c.in-Existentials.predicates) (existentials_row c.as_slice-in-Existentials.result.now) existential_child c.as_slice-in-Existentials.result.now (is_row_of_existentials c.as_slice-in-Existentials.result.now) c.as_slice-in-Existentials.ensures.row)
-    (subst (λ l. c.args.index < length (children_at c.args.self.now.rows l)) c.in-Existentials.is c.requires.inside)
+pub item_at-requires-in-ExistentialLists : goal.item_at-requires-in-ExistentialLists
+item_at-requires-in-ExistentialLists c =
+    subst (λ n. c.args.index < n) (len_here _ (any_handle terms_of.ExistentialLists c.typed-in-ExistentialLists.result) (existentials_row c.as_slice-in-ExistentialLists.result.now) (child_in terms_of.Existentials) c.as_slice-in-ExistentialLists.result.now (is_row_of_existentials c.as_slice-in-ExistentialLists.result.now) c.as_slice-in-ExistentialLists.ensures.row)
+    (subst (λ l. c.args.index < length (children_at c.args.self.now.rows l)) c.typed-in-ExistentialLists.ensures c.requires.inside)
 
-pub returns-in-Existentials : goal.returns-in-Existentials
-returns-in-Existentials c = rw c.in-Existentials.is (child_here _ (stored_list.Existentials c.in-Existentials.predicates) (existentials_row c.as_slice-in-Existentials.result.now) existential_child c.as_slice-in-Existentials.result.now (is_row_of_existentials c.as_slice-in-Existentials.result.now) c.as_slice-in-Existentials.ensures.row _ _ c.item_at-in-Existentials.ensures)
+pub returns-in-ExistentialLists : goal.returns-in-ExistentialLists
+returns-in-ExistentialLists c = rw (c.typed-in-ExistentialLists.ensures, c.child-in-ExistentialLists.ensures) (child_here _ (any_handle terms_of.ExistentialLists c.typed-in-ExistentialLists.result) (existentials_row c.as_slice-in-ExistentialLists.result.now) (child_in terms_of.Existentials) c.as_slice-in-ExistentialLists.result.now (is_row_of_existentials c.as_slice-in-ExistentialLists.result.now) c.as_slice-in-ExistentialLists.ensures.row _ _ c.item_at-in-ExistentialLists.ensures)
 
-pub item_at-requires-in-Clauses : goal.item_at-requires-in-Clauses
-item_at-requires-in-Clauses c =
-    subst (λ n. c.args.index < n) (len_here _ (stored_list.Clauses c.in-Clauses.clauses) (clauses_row c.as_slice-in-Clauses.result.now) clause_child c.as_slice-in-Clauses.result.now (is_row_of_clauses c.as_slice-in-Clauses.result.now) c.as_slice-in-Clauses.ensures.row)
-    (subst (λ l. c.args.index < length (children_at c.args.self.now.rows l)) c.in-Clauses.is c.requires.inside)
+pub item_at-requires-in-ClauseLists : goal.item_at-requires-in-ClauseLists
+item_at-requires-in-ClauseLists c =
+    subst (λ n. c.args.index < n) (len_here _ (any_handle terms_of.ClauseLists c.typed-in-ClauseLists.result) (clauses_row c.as_slice-in-ClauseLists.result.now) (child_in terms_of.Predicates) c.as_slice-in-ClauseLists.result.now (is_row_of_clauses c.as_slice-in-ClauseLists.result.now) c.as_slice-in-ClauseLists.ensures.row)
+    (subst (λ l. c.args.index < length (children_at c.args.self.now.rows l)) c.typed-in-ClauseLists.ensures c.requires.inside)
 
-pub returns-in-Clauses : goal.returns-in-Clauses
-returns-in-Clauses c = rw (c.in-Clauses.is, c.clause_child.ensures) (child_here _ (stored_list.Clauses c.in-Clauses.clauses) (clauses_row c.as_slice-in-Clauses.result.now) clause_child c.as_slice-in-Clauses.result.now (is_row_of_clauses c.as_slice-in-Clauses.result.now) c.as_slice-in-Clauses.ensures.row _ _ c.item_at-in-Clauses.ensures)
+pub returns-in-ClauseLists : goal.returns-in-ClauseLists
+returns-in-ClauseLists c = rw (c.typed-in-ClauseLists.ensures, c.child-in-ClauseLists.ensures) (child_here _ (any_handle terms_of.ClauseLists c.typed-in-ClauseLists.result) (clauses_row c.as_slice-in-ClauseLists.result.now) (child_in terms_of.Predicates) c.as_slice-in-ClauseLists.result.now (is_row_of_clauses c.as_slice-in-ClauseLists.result.now) c.as_slice-in-ClauseLists.ensures.row _ _ c.item_at-in-ClauseLists.ensures)

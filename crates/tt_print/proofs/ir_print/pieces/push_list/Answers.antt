@@ -1,6 +1,5 @@
 use Rattle.std.proofs.Common.{◌≡◌, ◌+◌, ◌-◌, arith}
 use Rattle.tt_kinds.specs.Shape.{fill}
-use Rattle.tt_kinds.specs.Parts.{list_sort}
 use Rattle.tt_interner.specs.Rows.{size}
 use Rattle.tt_interner.specs.Children.{children_at}
 use Rattle.tt_visit.proofs.VisitSteps.{parts-child}
@@ -22,7 +21,7 @@ items-preserved c =
     let part = parts-child (size c.args.cx.now.rows) list _ _ c.list_child-child.ensures own.parts in
     record {
       within = omega arith;
-      adds = adds-item c.args.cx.now.rows _ (list_sort c.args.list) list (c.items.index - 1) _ _ _ _ _ _ next c.list_child-child.ensures own.fit own.len c.items.invariant.adds
+      adds = adds-item c.args.cx.now.rows _ c.args.list.table list (c.items.index - 1) _ _ _ _ _ _ next c.list_child-child.ensures own.fit own.len c.items.invariant.adds
           (c.in_ok-push_child.ensures c.args.cx.now.rows part);
     }
 
@@ -31,4 +30,4 @@ unfolding fill
 returns c =
     let own = c.list_len-count.ensures in
     let list = children_at c.args.cx.now.rows c.args.list in
-    adds-list c.args.cx.now.rows c.args.style _ (list_sort c.args.list) list _ _ _ _ _ c.items-test.false c.items_style-items.ensures own.means own.len own.fit c.items.invariant.adds
+    adds-list c.args.cx.now.rows c.args.style _ c.args.list.table list _ _ _ _ _ c.items-test.false c.items_style-items.ensures own.means own.len own.fit c.items.invariant.adds

@@ -7,5 +7,5 @@ use Rattle.tt_visit.proofs.handles.ClauseTypeVisitable.visit_with.Goals as goal
 pub returns-clause-result : goal.returns-clause-result
 unfolding fill fill_all
 returns-clause-result g c =
-    let inner = rw (c.from_number-predicate.ensures, c.number.ensures) at c.visit_node.ensures.result in
-    flow-weaker c.visit_node.result inner (λ _ h. node_seen refl (one_seen h all_seen)) (λ b h. node_broke refl (first_broke h))
+    let inner = rw c.any.ensures at c.visit_stored.ensures.result in
+    flow-weaker c.visit_stored.result inner (λ _ h. node_seen refl (one_seen h all_seen)) (λ b h. node_broke refl (first_broke h))

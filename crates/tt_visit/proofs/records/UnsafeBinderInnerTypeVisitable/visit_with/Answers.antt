@@ -6,5 +6,5 @@ use Rattle.tt_visit.proofs.records.UnsafeBinderInnerTypeVisitable.visit_with.Goa
 pub returns-clause-result : goal.returns-clause-result
 unfolding fill fill_all
 returns-clause-result g c =
-    let under = rw (c.bound_vars.ensures, c.one-parts.ensures, c.skip_binder.ensures) at c.visit_under.ensures.result in
+    let under = rw (c.bound_vars.ensures, c.one-parts.ensures, c.child.ensures, c.skip_binder.ensures) at c.visit_under.ensures.result in
     flow-weaker c.visit_under.result under (λ _ h. h unsafe_binder_record) (λ b h. h unsafe_binder_record)
