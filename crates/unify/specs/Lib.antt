@@ -3,4 +3,9 @@ pub mod Faults
 pub mod Ground
 pub mod Pairs
 pub mod Resolver
+pub mod Search
 pub mod Substitution
+pub mod Triangular
+pub mod TriangularLoop
+pub mod TriangularTable
+pub mod Undo
