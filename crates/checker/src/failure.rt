@@ -1,6 +1,6 @@
 //! Why a program isn't accepted.
 
-use checker_syntax::message::Message;
+use crate::mistake::Mistake;
 use std::alloc::{AllocError, AllocFailed};
 use thiserror::Error;
 use type_terms::Refusal;
@@ -8,9 +8,9 @@ use type_terms::Refusal;
 /// Why a program isn't accepted, or isn't checked to its end.
 #[derive(Debug, Drop, Error)]
 pub enum Failure {
-    /// The program is wrong.
-    #[error("{0}")]
-    Wrong(Message),
+    /// The program is wrong. [`message_of`](crate::message_of) says how.
+    #[error("the program is wrong")]
+    Wrong(Mistake),
     /// The program isn't well formed: for example, a number is out of range of its list, or an operand doesn't come
     /// before its expression. No source is known that is read as such a program.
     #[error("a number in the program points nowhere")]

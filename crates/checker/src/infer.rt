@@ -3,6 +3,7 @@
 //! Each expression has an inference variable for its type, and each rule makes types equal.
 
 mod calls;
+mod common;
 mod equality;
 mod projections;
 
@@ -18,9 +19,9 @@ use crate::built::built;
 use crate::declared::Declared;
 use crate::failure::Failure;
 use crate::lookup::{at, type_at};
+use crate::mistake::{Mistake, Wanted, unknown_type};
 use crate::scope::{Scope, operand, place_of, type_of, written};
 use crate::types::reference_to;
-use crate::wording::unknown_type;
 use checker_syntax::program::{Body, Expression, Function, Place, Program};
 use equality::{equate, fresh_variables, is_of};
 use type_terms::prelude::*;
@@ -76,8 +77,8 @@ fn infer_within(
 {
     let subjects = infer_all(cx, scope, bindings)?;
     infer_result(cx, scope, bindings)?;
-    let types = resolved(cx, scope, bindings, scope.types)?;
-    let subjects = resolved(cx, scope, bindings, subjects.as_slice())?;
+    let types = resolved(cx, scope, bindings, scope.types, Wanted::Type)?;
+    let subjects = resolved(cx, scope, bindings, subjects.as_slice(), Wanted::Arguments)?;
     Ok(Inferred { types, subjects })
 }
 
@@ -123,6 +124,7 @@ fn resolved(
     scope: Scope<'_>,
     bindings: &Bindings,
     types: &[Ty],
+    wanted: Wanted,
 ) -> Result<Vec<Ty>, Failure>
     requires table { IsTable cx.old bindings.now }
     requires types { AreOwned ty_shape cx.old types.now }
@@ -135,8 +137,9 @@ fn resolved(
         let ty = type_at(cx, types, number)?;
         let ty = bindings.resolve(cx, ty)?;
         if ty.has_infer(cx) {
-            let message = unknown_type(cx, bindings, place_of(scope, number)?, ty)?;
-            return Err(Failure::Wrong(message));
+            let place = place_of(scope, number)?;
+            let cause = unknown_type(cx, bindings, ty, wanted)?;
+            return Err(Failure::Wrong(Mistake { place, cause }));
         }
         known.push(ty)?;
     }

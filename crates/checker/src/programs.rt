@@ -11,9 +11,10 @@ use crate::declared::{Declared, declare};
 use crate::failure::Failure;
 use crate::infer::infer_body;
 use crate::lookup::{at, type_at};
+use crate::mistake::Mistake;
 use crate::scope::Scope;
+use crate::type_text::text_of;
 use crate::verify::verify;
-use crate::wording::text_of;
 use checker_syntax::program::{Expression, Function, Program};
 use type_terms::prelude::*;
 
@@ -105,6 +106,33 @@ fn types_of(
     };
     verify(cx, scope, found.subjects.as_slice())?;
     Ok(found.types)
+}
+
+// Returns the mistake that ended a check, or none if the check found types.
+fn mistake_in(checked: Result<Vec<Ty>, Failure>) -> Result<Option<Mistake>, Failure> {
+    match checked {
+        Ok(_types) => Ok(None),
+        Err(Failure::Wrong(mistake)) => Ok(Some(mistake)),
+        Err(failure) => Err(failure),
+    }
+}
+
+/// Returns the first mistake in each function's body, in the order of the functions.
+#[tactic(auto, using(crate::proofs::ClientLaws::growth_laws))]
+pub fn mistakes(cx: &mut Interner, program: &Program) -> Result<Vec<Mistake>, Failure>
+    ensures { Extends cx.old cx.new }
+{
+    let declared = declare(cx, program)?;
+    let mut found = Vec::new(cx.allocator());
+    for number in 0..program.functions.len() {
+        let Some(function) = program.functions.get(number) else {
+            return Err(Failure::Malformed);
+        };
+        if let Some(mistake) = mistake_in(types_of(cx, program, &declared, function))? {
+            found.push(mistake)?;
+        }
+    }
+    Ok(found)
 }
 
 /// Returns a line for each variable of the program: the place of its `let`, and its type. The types have to be this

@@ -1,10 +1,11 @@
 //! Checking sources.
 
 use crate::failure::Failure;
-use crate::programs::{check, variables};
+use crate::programs::{check, mistakes, variables};
+use crate::wording::message_of;
 use checker_syntax::message::Message;
 use checker_syntax::program::Program;
-use checker_syntax::read;
+use checker_syntax::read_leniently;
 use checker_syntax::syntax_error::SyntaxError;
 use std::alloc::{AllocError, Global};
 use std::io;
@@ -16,64 +17,92 @@ use type_terms::Interner;
 pub enum Verdict {
     /// The program is accepted. The text has a line for each variable: the place of its `let`, and its type.
     Accepted(String),
-    /// The program is wrong, as the message says.
-    Wrong(Message),
+    /// The program is wrong, as the messages say. A function's body has one message at most. Messages about what is
+    /// written come first, then those about types.
+    Wrong(Vec<Message>),
     /// The program wasn't checked to its end, for this reason.
     GivenUp(Failure),
 }
 
-impl From<AllocError> for Verdict {
-    fn from(error: AllocError) -> Verdict {
-        Verdict::GivenUp(Failure::from(error))
-    }
-}
-
 /// Reads the source of a program, and checks it.
 pub fn verdict_of(alloc: Global, source: &str) -> Verdict {
-    match read(alloc, source) {
-        Ok(program) => checked(alloc, &program),
-        Err(SyntaxError::Wrong(message)) => Verdict::Wrong(message),
-        Err(SyntaxError::Memory) => Verdict::from(AllocError),
-    }
-}
-
-// Checks the program.
-fn checked(alloc: Global, program: &Program) -> Verdict {
-    let mut cx = match Interner::new(alloc) {
-        Ok(cx) => cx,
-        Err(refusal) => return Verdict::GivenUp(Failure::Refused(refusal)),
-    };
-    let found = types(&mut cx, program);
-    drop(cx);
-    match found {
-        Ok(lines) => Verdict::Accepted(lines),
-        Err(Failure::Wrong(message)) => Verdict::Wrong(message),
+    match verdict_or_failure(alloc, source) {
+        Ok(verdict) => verdict,
         Err(failure) => Verdict::GivenUp(failure),
     }
 }
 
-// Returns the types of the program's variables.
-fn types(cx: &mut Interner, program: &Program) -> Result<String, Failure> {
-    let checked = check(cx, program)?;
-    variables(cx, program, checked.bodies.as_slice())
+// Returns the verdict on the program of the source.
+fn verdict_or_failure(alloc: Global, source: &str) -> Result<Verdict, Failure> {
+    let mut messages = Vec::new(alloc);
+    match read_leniently(alloc, source, &mut messages) {
+        Ok(program) => {
+            let mut cx = Interner::new(alloc)?;
+            let found = checked(&mut cx, &program, messages);
+            drop(cx);
+            found
+        }
+        Err(SyntaxError::Wrong(message)) => {
+            messages.push(message)?;
+            Ok(Verdict::Wrong(messages))
+        }
+        Err(SyntaxError::Memory) => Err(Failure::from(AllocError)),
+    }
 }
 
-/// Reads a program from the input, writes the verdict to the output, and returns whether the program is accepted. The
-/// input has to be UTF-8.
+// Returns the verdict on the program, of which the messages were read.
+fn checked(
+    cx: &mut Interner,
+    program: &Program,
+    mut messages: Vec<Message>,
+) -> Result<Verdict, Failure> {
+    if messages.is_empty() {
+        match check(cx, program) {
+            Ok(checked) => {
+                let lines = variables(cx, program, checked.bodies.as_slice())?;
+                return Ok(Verdict::Accepted(lines));
+            }
+            Err(Failure::Wrong(_)) => {}
+            Err(failure) => return Err(failure),
+        }
+    }
+    for mistake in mistakes(cx, program)? {
+        messages.push(message_of(cx, &mistake)?)?;
+    }
+    if messages.is_empty() {
+        return Err(Failure::Unverified);
+    }
+    Ok(Verdict::Wrong(messages))
+}
+
+/// Reads a program from the input, writes the verdict to the output, and returns whether the program is accepted. An
+/// input that isn't UTF-8 isn't checked, as the output then says.
 pub fn run<R: Read + Drop, W: Write + Drop>(
     alloc: Global,
     input: R,
     mut output: W,
 ) -> io::Result<bool> {
-    let source = io::read_to_string(alloc, input)?;
+    let source = match io::read_to_string(alloc, input) {
+        Ok(source) => source,
+        Err(error) => {
+            if error.kind() != io::ErrorKind::InvalidData {
+                return Err(error);
+            }
+            output.write_all(b"not checked: the input isn't UTF-8\n")?;
+            output.flush()?;
+            return Ok(false);
+        }
+    };
     let is_accepted = match verdict_of(alloc, source.as_str()) {
         Verdict::Accepted(lines) => {
             output.write_all(lines.as_bytes())?;
             output.write_all(b"accepted\n")?;
             true
         }
-        Verdict::Wrong(message) => {
-            writeln!(output, "{message}")?;
+        Verdict::Wrong(messages) => {
+            for message in messages {
+                writeln!(output, "{message}")?;
+            }
             false
         }
         Verdict::GivenUp(failure) => {

@@ -7,6 +7,7 @@ ghost use Rattle.checker_syntax.specs.Tokens.{tokens_left};
 
 use crate::declarations::Signature;
 use crate::items::{DataName, Items};
+use crate::message::Message;
 use crate::program::{Body, DataType, Expression, Function, Literal, Place};
 use crate::syntax_error::SyntaxError;
 use crate::token::{Token, TokenKind};
@@ -72,8 +73,13 @@ impl<'a> BodyReader<'a> {
         self.types
     }
 
-    /// Returns the function of the signature, with its body.
-    pub fn read_function(&mut self, signature: Signature<'a>) -> Result<Function, SyntaxError> {
+    /// Returns the function of the signature, with its body. Where the body is wrong, a message is added, and the function
+    /// has none.
+    pub fn read_function(
+        &mut self,
+        signature: Signature<'a>,
+        messages: &mut Vec<Message>,
+    ) -> Result<Function, SyntaxError> {
         let Signature {
             name,
             place,
@@ -95,19 +101,30 @@ impl<'a> BodyReader<'a> {
         };
         self.types.begin_item(params, rest);
         self.declare_arguments(arguments.as_slice())?;
-        let body = self.read_body()?;
+        let body = match self.read_body() {
+            Ok(body) => Some(body),
+            Err(SyntaxError::Wrong(message)) => {
+                messages.push(message)?;
+                None
+            }
+            Err(SyntaxError::Memory) => return Err(SyntaxError::Memory),
+        };
         Ok(Function {
             name,
             place,
             params: self.types.end_item(),
             inputs,
             output,
-            body: Some(body),
+            body,
         })
     }
 
     // Reads a body up to the next item.
     fn read_body(&mut self) -> Result<Body, SyntaxError> {
+        // A body that was wrong may have left some of these.
+        self.expressions.clear();
+        self.places.clear();
+        self.operands.clear();
         self.types.tokens.expect(TokenKind::OpenBrace)?;
         let result = self.block(LEVELS)?;
         self.types.tokens.expect_item()?;
@@ -201,6 +218,7 @@ impl<'a> BodyReader<'a> {
     {
         let token = self.types.tokens.peek();
         if let Some(literal) = literal(token.kind) {
+            self.check_integer(token)?;
             self.types.tokens.advance();
             return self.push(Expression::Literal(literal), token.place);
         }

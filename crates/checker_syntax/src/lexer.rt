@@ -94,7 +94,11 @@ impl<'a> Lexer<'a> {
                 self.place.line = self.place.line.saturating_add(1);
                 self.place.column = 1;
             }
-            Some(_) => self.place.column = self.place.column.saturating_add(1),
+            Some(other) => {
+                if other != BYTE_ORDER_MARK {
+                    self.place.column = self.place.column.saturating_add(1);
+                }
+            }
             None => {}
         }
         next
@@ -118,7 +122,7 @@ impl<'a> Lexer<'a> {
     {
         while let Some(next) = self.peek() {
             let is_comment = self.rest.starts_with("//");
-            if !is_comment && !next.is_ascii_whitespace() {
+            if !is_comment && !is_space(next) {
                 return;
             }
             self.advance();
@@ -156,9 +160,20 @@ impl<'a> Lexer<'a> {
             _ if is_of_word(first) => self.word(first, place, start),
             _ => match TokenKind::mark(first) {
                 Some(kind) => Ok(kind),
-                None => Err(wrong(place, format!(in self.alloc; "unknown character `{first}`"))),
+                None => Err(self.unknown_character(first, place)),
             },
         }
+    }
+
+    // Returns the error that no token begins with the character. A message holds no control character.
+    fn unknown_character(&self, character: char, place: Place) -> SyntaxError {
+        let text = if character.is_control() {
+            let number = u32::from(character);
+            format!(in self.alloc; "unknown control character U+{number:04X}")
+        } else {
+            format!(in self.alloc; "unknown character `{character}`")
+        };
+        wrong(place, text)
     }
 
     // Passes over the rest of an integer, a name or a keyword of this first character.
@@ -239,13 +254,89 @@ impl<'a> Lexer<'a> {
         match self.advance() {
             // The caller reports that the literal isn't closed.
             None => Ok(()),
-            Some('n' | 't' | '\\' | '\'' | '"' | '0') => Ok(()),
-            Some(other) => {
-                let text = format!(in self.alloc; "unknown escape `\\{other}`");
-                Err(wrong(place, text))
-            }
+            Some('n' | 'r' | 't' | '\\' | '\'' | '"' | '0') => Ok(()),
+            Some('x') => self.ascii_escape(place),
+            Some('u') => self.unicode_escape(place),
+            Some(other) => Err(self.unknown_escape(other, place)),
         }
     }
+
+    // Returns the error that the character names no escape.
+    fn unknown_escape(&self, character: char, place: Place) -> SyntaxError {
+        let text = if character.is_control() {
+            format!(in self.alloc; "unknown escape of a control character")
+        } else {
+            format!(in self.alloc; "unknown escape `\\{character}`")
+        };
+        wrong(place, text)
+    }
+
+    // Passes over the two digits of an ASCII character.
+    fn ascii_escape(&mut self, place: Place) -> Result<(), SyntaxError>
+        ensures { length self.new.rest.now ≤ length self.old.rest.now }
+    {
+        if let Some(number) = self.digits(2, 2)
+            && number <= GREATEST_ASCII
+        {
+            return Ok(());
+        }
+        let text = format!(in self.alloc;
+            "`\\x` needs two hexadecimal digits, and a value of at most 7F"
+        );
+        Err(wrong(place, text))
+    }
+
+    // Passes over the digits of a character in braces.
+    fn unicode_escape(&mut self, place: Place) -> Result<(), SyntaxError>
+        ensures { length self.new.rest.now ≤ length self.old.rest.now }
+    {
+        if self.eat('{')
+            && let Some(number) = self.digits(1, 6)
+            && char::from_u32(number).is_some()
+            && self.eat('}')
+        {
+            return Ok(());
+        }
+        let text = format!(in self.alloc;
+            "`\\u` needs a character's number in braces, with one to six hexadecimal digits"
+        );
+        Err(wrong(place, text))
+    }
+
+    // Passes over hexadecimal digits, and returns their value, or `None` if there are fewer than `least`. No more than
+    // `most` are read.
+    fn digits(&mut self, least: u32, most: u32) -> Option<u32>
+        ensures { length self.new.rest.now ≤ length self.old.rest.now }
+    {
+        let mut number = 0u32;
+        for place in 0..most {
+            match self.digit() {
+                Some(digit) => number = number.saturating_mul(16).saturating_add(digit),
+                None => return if place < least { None } else { Some(number) },
+            }
+        }
+        Some(number)
+    }
+
+    // Passes over the next character if it is a hexadecimal digit, and returns the digit's value.
+    fn digit(&mut self) -> Option<u32>
+        ensures { length self.new.rest.now ≤ length self.old.rest.now }
+    {
+        let digit = self.peek()?.to_digit(16)?;
+        self.advance();
+        Some(digit)
+    }
+}
+
+// The greatest number of an ASCII character.
+const GREATEST_ASCII: u32 = 0x7F;
+
+// What may be before a source, and says nothing of it.
+const BYTE_ORDER_MARK: char = '\u{FEFF}';
+
+// Returns whether the character is white space between tokens.
+fn is_space(character: char) -> bool {
+    character.is_ascii_whitespace() || character == BYTE_ORDER_MARK
 }
 
 // Returns whether the character may be in a name.

@@ -1,7 +1,7 @@
 //! A reader of programs in a small language with generic structs and functions.
 //!
 //! [`read`] turns a source into a [`Program`](program::Program), in which each name is resolved and each type and
-//! expression numbered. Types are read, but not checked.
+//! expression numbered. Types are read, but not checked. [`read_leniently`] goes on where a body is wrong.
 #![tactic(auto)]
 
 mod bodies;
@@ -20,15 +20,31 @@ use crate::bodies::BodyReader;
 use crate::declarations::{Signature, read_signature, read_struct};
 use crate::items::{Head, ItemKind, Items, read_heads};
 use crate::lexer::Lexer;
+use crate::message::Message;
 use crate::program::{DataType, Function, Program};
 use crate::syntax_error::SyntaxError;
 use crate::tokens::Tokens;
 use crate::types::TypeReader;
 use std::alloc::Global;
 
-/// Reads the program of a source. The first error ends the reading. The tokens are read first, then the items' names
-/// and type parameters, then the structs and signatures, and then the bodies.
+/// Reads the program of a source. The first error is returned. The tokens are read first, then the items' names and
+/// type parameters, then the structs and signatures, and then the bodies.
 pub fn read(alloc: Global, source: &str) -> Result<Program, SyntaxError> {
+    let mut messages = Vec::new(alloc);
+    let program = read_leniently(alloc, source, &mut messages)?;
+    match messages.into_iter().next() {
+        Some(message) => Err(SyntaxError::Wrong(message)),
+        None => Ok(program),
+    }
+}
+
+/// Reads the program of a source. For each body that is wrong, a message is added, and the function is in the program
+/// without its body. An error outside of bodies is returned.
+pub fn read_leniently(
+    alloc: Global,
+    source: &str,
+    messages: &mut Vec<Message>,
+) -> Result<Program, SyntaxError> {
     let mut lexer = Lexer::new(alloc, source);
     let list = lexer.tokens()?;
     let end = lexer.end();
@@ -41,7 +57,7 @@ pub fn read(alloc: Global, source: &str) -> Result<Program, SyntaxError> {
     let mut bodies = BodyReader::new(alloc, types, &items, names.as_slice(), data.as_slice());
     let mut functions = Vec::new(alloc);
     for signature in signatures {
-        functions.push(bodies.read_function(signature)?)?;
+        functions.push(bodies.read_function(signature, messages)?)?;
     }
     let (types, parts) = bodies.into_types().into_lists();
     Ok(Program {

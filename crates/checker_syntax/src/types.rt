@@ -98,6 +98,12 @@ impl<'a> TypeReader<'a> {
         self.push(WrittenType::Tuple(none))
     }
 
+    /// Returns whether the name, which is this token, is a type parameter's or a built-in type's.
+    pub fn has_no_fields(&self, name: usize, token: Token) -> bool {
+        self.params.iter().any(|param| *param == name)
+            || built_in_type(self.tokens.text(token)).is_some()
+    }
+
     // Reads a type with at most this many levels, and returns its number.
     #[cycle(types)]
     fn nested_type(&mut self, levels: usize) -> Result<usize, SyntaxError>

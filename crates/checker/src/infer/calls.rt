@@ -12,9 +12,9 @@ ghost use Rattle.tt_kinds.specs.Values.{fn_sig_shape};
 use crate::failure::Failure;
 use crate::infer::equality::{equate, fresh_variables, is_of};
 use crate::lookup::{at, part_of, type_at};
+use crate::mistake::{Mistake, wrong_count};
 use crate::scope::{Scope, operand, place_of};
 use crate::types::{data_type_of, function_of};
-use crate::wording::wrong_count;
 use checker_syntax::program::Span;
 use type_terms::FieldInfo;
 use type_terms::prelude::*;
@@ -102,8 +102,8 @@ pub fn infer_call(
     let arguments = part_of(scope.body.operands.as_slice(), arguments)?;
     let place = place_of(scope, number)?;
     if arguments.len() != callee.inputs.len() {
-        let message = wrong_count(cx, scope.program, place, callee, arguments.len())?;
-        return Err(Failure::Wrong(message));
+        let cause = wrong_count(cx, scope.program, callee, arguments.len())?;
+        return Err(Failure::Wrong(Mistake { place, cause }));
     }
     let id = at(scope.declared.functions.as_slice(), function)?;
     let item = fresh_function(cx, bindings, id, callee.params.len())?;

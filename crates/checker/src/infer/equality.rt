@@ -8,8 +8,9 @@ ghost use Rattle.unify.specs.Bindings.{IsTable};
 ghost use Rattle.checker.specs.Scope.{IsScope};
 
 use crate::failure::Failure;
+use crate::infer::common::unify_common;
+use crate::mistake::{Mistake, mismatch};
 use crate::scope::{Scope, place_of, type_of};
-use crate::wording::mismatch;
 use checker_syntax::program::Place;
 use type_terms::prelude::*;
 use unify::{Bindings, Fault, unify};
@@ -66,7 +67,13 @@ pub fn equate(
     match unify(cx, bindings, expected, found) {
         Ok(()) => Ok(()),
         Err(Fault::Refused(refusal)) => Err(Failure::Refused(refusal)),
-        Err(fault) => Err(Failure::Wrong(mismatch(cx, bindings, place, expected, found, fault)?)),
+        // No type of the language has a binder, and no input is known that gives `Unsolved`.
+        Err(Fault::Escapes(_, _)) | Err(Fault::Unsolved) => Err(Failure::Unverified),
+        Err(fault) => {
+            unify_common(cx, bindings, expected, found)?;
+            let cause = mismatch(cx, bindings, expected, found, fault)?;
+            Err(Failure::Wrong(Mistake { place, cause }))
+        }
     }
 }
 

@@ -11,10 +11,10 @@ use crate::declared::symbol_of;
 use crate::failure::Failure;
 use crate::infer::calls::{field_type, fields_of};
 use crate::infer::equality::is_of;
-use crate::lookup::{at, name_of};
+use crate::lookup::at;
+use crate::mistake::{Mistake, Wanted, no_field, no_item, unknown_type};
 use crate::scope::{Scope, operand, place_of};
 use crate::types::{item_type, without_references};
-use crate::wording::{no_field, no_item, unknown_type};
 use type_terms::prelude::*;
 use unify::Bindings;
 
@@ -82,14 +82,17 @@ pub fn infer_field(
     let whole = known(cx, scope, bindings, number, value)?;
     let place = place_of(scope, number)?;
     if is_unknown(cx, whole) {
-        let message = unknown_type(cx, bindings, place_of(scope, value)?, whole)?;
-        return Err(Failure::Wrong(message));
+        let place = place_of(scope, value)?;
+        let cause = unknown_type(cx, bindings, whole, Wanted::Type)?;
+        return Err(Failure::Wrong(Mistake { place, cause }));
     }
-    let text = name_of(scope.program, name)?;
-    let name = symbol_of(cx, scope.program, name)?;
-    match field_named(cx, whole, name)? {
+    let symbol = symbol_of(cx, scope.program, name)?;
+    match field_named(cx, whole, symbol)? {
         Some(ty) => is_of(cx, scope, bindings, number, ty),
-        None => Err(Failure::Wrong(no_field(cx, bindings, place, whole, text)?)),
+        None => {
+            let cause = no_field(cx, scope.program, bindings, whole, name)?;
+            Err(Failure::Wrong(Mistake { place, cause }))
+        }
     }
 }
 
@@ -111,11 +114,15 @@ pub fn infer_item(
     let whole = known(cx, scope, bindings, number, value)?;
     let place = place_of(scope, number)?;
     if is_unknown(cx, whole) {
-        let message = unknown_type(cx, bindings, place_of(scope, value)?, whole)?;
-        return Err(Failure::Wrong(message));
+        let place = place_of(scope, value)?;
+        let cause = unknown_type(cx, bindings, whole, Wanted::Type)?;
+        return Err(Failure::Wrong(Mistake { place, cause }));
     }
     match item_type(cx, whole, item) {
         Some(ty) => is_of(cx, scope, bindings, number, ty),
-        None => Err(Failure::Wrong(no_item(cx, bindings, place, whole, item)?)),
+        None => {
+            let cause = no_item(cx, bindings, whole, item)?;
+            Err(Failure::Wrong(Mistake { place, cause }))
+        }
     }
 }

@@ -120,8 +120,32 @@ impl<'a> BodyReader<'a> {
     pub(super) fn data_name(&self, name: usize, token: Token) -> Result<DataName, SyntaxError> {
         match self.items.data(name) {
             Some(data) => Ok(data),
-            None => Err(self.unknown("type", token)),
+            None => Err(self.no_struct(name, token)),
         }
+    }
+
+    // Returns the error that the token isn't the name of a struct.
+    fn no_struct(&self, name: usize, token: Token) -> SyntaxError {
+        if !self.types.has_no_fields(name, token) {
+            return self.unknown("type", token);
+        }
+        let text = self.types.tokens.text(token);
+        wrong(
+            token.place,
+            format!(in self.alloc; "the type `{text}` is no struct"),
+        )
+    }
+
+    // Returns an error if the token is an integer above the greatest one.
+    pub(super) fn check_integer(&self, token: Token) -> Result<(), SyntaxError> {
+        let text = self.types.tokens.text(token);
+        if token.kind != TokenKind::Int || is_integer(text) {
+            return Ok(());
+        }
+        let message = format!(in self.alloc;
+            "`{text}` is above {GREATEST_INTEGER}, the greatest `i32`"
+        );
+        Err(wrong(token.place, message))
     }
 
     // Adds a use of the innermost variable of this name.
@@ -251,4 +275,18 @@ impl<'a> BodyReader<'a> {
             format!(in self.alloc; "unknown {what} `{name}`"),
         )
     }
+}
+
+// The greatest `i32`.
+const GREATEST_INTEGER: u32 = i32::MAX as u32;
+
+// Returns whether the number with these digits is at most the greatest integer. `_` between the digits means nothing.
+fn is_integer(text: &str) -> bool {
+    let mut number = 0u32;
+    for character in text.chars() {
+        if let Some(digit) = character.to_digit(10) {
+            number = number.saturating_mul(10).saturating_add(digit);
+        }
+    }
+    number <= GREATEST_INTEGER
 }

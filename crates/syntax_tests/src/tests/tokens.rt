@@ -3,6 +3,8 @@
 use super::{at, has_names, is_body, last_body, span};
 use checker_syntax::program::{Expression, Literal};
 use checker_syntax::read;
+use checker_syntax::syntax_error::SyntaxError;
+use std::alloc::Global;
 use std::test::Fail;
 
 // A name goes on as far as letters do: `lets` is no keyword.
@@ -80,5 +82,34 @@ fn literals_have_escapes(rt: HostRuntime) -> Result<(), Fail> {
         &[0, 1, 2, 3, 4, 5, 6, 7],
         8,
     );
+    Ok(())
+}
+
+// Returns the message about the source.
+fn message(alloc: Global, source: &str) -> Result<String, Fail> {
+    match read(alloc, source) {
+        Ok(_) => Ok(String::new(alloc)),
+        Err(error) => Ok(SyntaxError::to_string(&error, alloc)?),
+    }
+}
+
+// A message would otherwise move a terminal's cursor, or ring its bell.
+#[test]
+fn a_message_holds_no_control_character(rt: HostRuntime) -> Result<(), Fail> {
+    let bell = message(rt.alloc(), "fn f() { \u{7} }")?;
+    assert_eq!(rt; bell.as_str(), "1:10: unknown control character U+0007");
+    let escape = message(rt.alloc(), "'\\\u{1b}'")?;
+    assert_eq!(rt;
+        escape.as_str(),
+        "1:3: unknown escape of a control character"
+    );
+    Ok(())
+}
+
+// A byte order mark is no part of the program, and of no column.
+#[test]
+fn a_byte_order_mark_is_space(rt: HostRuntime) -> Result<(), Fail> {
+    let text = message(rt.alloc(), "\u{feff}fn f() { x }")?;
+    assert_eq!(rt; text.as_str(), "1:10: unknown value `x`");
     Ok(())
 }

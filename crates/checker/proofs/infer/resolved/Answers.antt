@@ -15,8 +15,8 @@ loop-number-preserved c = record {
   known = subst (AreOwned ty_shape c.resolve.new.cx) (sym c.in_ok-push.ensures.items) (push_owned ty_shape c.resolve.new.cx c.loop-number.known.items c.in_ok-ty-2.ty (list_still_owned ty_shape c.loop-number.cx c.resolve.new.cx c.loop-number.known.items c.resolve.ensures.extends c.loop-number.invariant.known) c.in_ok-ty-2.ensures.owned);
 }
 
-pub returns-in_err-place_of-clause-extends : goal.returns-in_err-place_of-clause-extends
-returns-in_err-place_of-clause-extends c = Extends-trans c.loop-number.invariant.extends c.resolve.ensures.extends
+pub returns-in_err-place-clause-extends : goal.returns-in_err-place-clause-extends
+returns-in_err-place-clause-extends c = Extends-trans c.loop-number.invariant.extends c.resolve.ensures.extends
 
-pub returns-in_err-message-clause-extends : goal.returns-in_err-message-clause-extends
-returns-in_err-message-clause-extends c = Extends-trans c.loop-number.invariant.extends (Extends-trans c.resolve.ensures.extends c.unknown_type.ensures.extends)
+pub returns-in_err-cause-clause-extends : goal.returns-in_err-cause-clause-extends
+returns-in_err-cause-clause-extends c = Extends-trans c.loop-number.invariant.extends (Extends-trans c.resolve.ensures.extends c.unknown_type.ensures.extends)
