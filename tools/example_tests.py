@@ -1,6 +1,7 @@
 #!/usr/bin/env python3
 """Prints a module of tests: one for each script and each program of examples/, which has to print what is in the file beside
-it, and one for each file of small programs (bin/programs), without the large ones, which take long without optimization."""
+it, and one for each file of small programs (bin/programs), without the large ones, which take long without optimization. Wrong
+programs of the checker have one more, for what is said of them to people."""
 
 import glob
 import os
@@ -13,7 +14,7 @@ from programs import files, programs_of
 HEAD = """\
 //! The scripts and programs of examples/.
 
-use checker::run;
+use checker::{Verdict, View, rendered, run, verdict_of};
 use std::alloc::Global;
 use std::process::Abort;
 use std::test::Fail;
@@ -29,6 +30,28 @@ fn are_checked(rt: &impl Abort, alloc: Global, programs: &[(u64, &str, &str)]) -
     }
     Ok(())
 }
+
+// Asserts that the checker says this of the wrong program in the file of this name, and the same in colours.
+fn is_reported(rt: &impl Abort, alloc: Global, name: &str, source: &str, said: &str) -> Result<(), Fail> {
+    let Verdict::Wrong(reports) = verdict_of(alloc, source) else {
+        assert!(rt; false, "{name} isn't wrong");
+        return Ok(());
+    };
+    let view = View { name, source, is_coloured: false };
+    let plain = rendered(alloc, view, reports.as_slice())?;
+    assert_eq!(rt; plain.as_str(), said);
+    let coloured = rendered(alloc, View { is_coloured: true, ..view }, reports.as_slice())?;
+    let mut text = String::new(alloc);
+    for (number, part) in coloured.as_str().split('\\x1b').enumerate() {
+        match part.split_once('m') {
+            Some((_colour, part)) if number > 0 => text.push_str(part)?,
+            _ => text.push_str(part)?,
+        }
+    }
+    assert_eq!(rt; text.as_str(), said);
+    assert!(rt; text.len() < coloured.len());
+    Ok(())
+}
 """
 TEST = """
 #[test]
@@ -39,6 +62,12 @@ fn {name}(rt: HostRuntime) -> Result<(), Fail> {{
     {call}(rt.alloc(), source.as_slice(), &mut output)?;
     assert!(rt; output.as_slice() == printed.as_slice());
     Ok(())
+}}
+"""
+REPORT = """
+#[test]
+fn {name}_reported(rt: HostRuntime) -> Result<(), Fail> {{
+    is_reported(&rt, rt.alloc(), {file}, {source}, {said})
 }}
 """
 PROGRAMS = """
@@ -64,6 +93,19 @@ def quoted(text):
     return '"' + "".join(it if it.isprintable() and it not in '"\\' else f"\\u{{{ord(it):x}}}" for it in text) + '"'
 
 
+def text_of(path):
+    """Returns the text of a file as it is."""
+    with open(path, encoding="utf-8", newline="") as it:
+        return it.read()
+
+
+def report_test(path):
+    """Returns the test of what is said of the wrong program of a file."""
+    said, file = text_of(f"{path}.report"), os.path.relpath(path, TOP)
+    name = os.path.basename(path).partition(".")[0]
+    return REPORT.format(name=name, file=quoted(file), source=quoted(text_of(path)), said=quoted(said))
+
+
 def programs_test(path):
     """Returns the test of a file of small programs."""
     small = [it for it in programs_of(path) if len(it.source) <= LARGEST and "…" not in it.printed]
@@ -77,6 +119,8 @@ def main():
         for path in sorted(glob.glob(f"{TOP}/examples/{pattern}")):
             name = os.path.relpath(path, f"{TOP}/examples").partition(".")[0].replace("/", "_")
             print(TEST.format(name=name, call=call, source=literal(path), printed=literal(f"{path}.stdout")), end="")
+    for path in sorted(glob.glob(f"{TOP}/examples/checker/*.lang.report")):
+        print(report_test(path[: -len(".report")]), end="")
     for path in files():
         print(programs_test(path), end="")
     return 0

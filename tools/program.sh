@@ -6,6 +6,7 @@
 #   crate    the program's crate
 #   library  the crate that the program uses
 #   takes_words  set where the program takes words of its own
+#   called_by    the option by which it takes its input's name, if it has one
 
 top=$(cd "$(dirname "${BASH_SOURCE[0]}")/.." && pwd)
 program=$top/crates/$crate/out/$crate
@@ -101,7 +102,11 @@ run_program() {
         # `rt try` gives the program no file, so a file that is the last word becomes its input.
         if [ "$#" != 0 ] && [ -f "${!#}" ]; then
             exec < "${!#}"
-            set -- "${@:1:$#-1}"
+            if [ -n "${called_by-}" ]; then
+                set -- "$called_by" "${!#}" "${@:1:$#-1}"
+            else
+                set -- "${@:1:$#-1}"
+            fi
         fi
         cd "$top/crates/$crate" || exit 2
         exec rt try -- "$@"

@@ -19,6 +19,11 @@ def files():
     return sorted(glob.glob(f"{TOP}/examples/checker/programs/*.txt"))
 
 
+def examples():
+    """Returns the paths of the programs that have a file each."""
+    return sorted(glob.glob(f"{TOP}/examples/checker/*.lang"))
+
+
 def repeated(text):
     """Returns the text with each «COUNT TEXT» written out."""
     return REPEATED.sub(lambda it: int(it[1]) * it[2], text)

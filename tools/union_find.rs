@@ -75,7 +75,8 @@ impl Types {
     }
 }
 
-/// Classes of types that were made equal. A class with a type that is no variable is named by one such type.
+/// Classes of types that were made equal. A class with a type that is no variable is named by one such type, and one of
+/// variables alone by an old one.
 struct Classes {
     parents: Vec<Type>,
 }
@@ -107,6 +108,7 @@ impl Classes {
                 continue;
             }
             match (types.kind(left), types.kind(right)) {
+                (Kind::Variable(old), Kind::Variable(new)) if old < new => self.parents[right as usize] = left,
                 (Kind::Variable(_), _) => self.parents[left as usize] = right,
                 (_, Kind::Variable(_)) => self.parents[right as usize] = left,
                 (Kind::Pair(a, b), Kind::Pair(c, d)) => {

@@ -19,8 +19,8 @@ use crate::built::built;
 use crate::declared::Declared;
 use crate::failure::Failure;
 use crate::lookup::{at, type_at};
-use crate::mistake::{Mistake, Wanted, unknown_type};
-use crate::scope::{Scope, operand, place_of, type_of, written};
+use crate::mistake::{Mistake, Origin, Wanted, unknown_type};
+use crate::scope::{Scope, let_of, operand, place_of, type_of, written};
 use crate::types::reference_to;
 use checker_syntax::program::{Body, Expression, Function, Place, Program};
 use equality::{equate, fresh_variables, is_of};
@@ -93,7 +93,11 @@ fn infer_result(cx: &mut Interner, scope: Scope<'_>, bindings: &mut Bindings) ->
     let output = written(cx, scope, scope.function.output)?;
     let result = type_of(cx, scope, scope.body.result)?;
     let place = place_of(scope, scope.body.result)?;
-    equate(cx, bindings, place, output, result)
+    let origin = Origin::Result {
+        name: scope.function.name,
+        declared: scope.function.place,
+    };
+    equate(cx, bindings, place, origin, output, result)
 }
 
 // Infers the types of all expressions, and returns the [`Inferred::subjects`], with variables.
@@ -138,7 +142,7 @@ fn resolved(
         let ty = bindings.resolve(cx, ty)?;
         if ty.has_infer(cx) {
             let place = place_of(scope, number)?;
-            let cause = unknown_type(cx, bindings, ty, wanted)?;
+            let cause = unknown_type(cx, bindings, ty, wanted, let_of(scope, number))?;
             return Err(Failure::Wrong(Mistake { place, cause }));
         }
         known.push(ty)?;
@@ -222,7 +226,7 @@ fn infer_dereference(
     let found = operand(cx, scope, number, value)?;
     let place = place_of(scope, value)?;
     let expected = reference_to(cx, ty)?;
-    equate(cx, bindings, place, expected, found)
+    equate(cx, bindings, place, Origin::Dereference, expected, found)
 }
 
 // Infers the type of a `let`: the type of its value, which has to equal the written type if there is one.
@@ -242,7 +246,8 @@ fn infer_let(
 {
     let found = operand(cx, scope, number, init)?;
     let place = place_of(scope, init)?;
-    equate_written(cx, scope, bindings, place, annotation, found)?;
+    let origin = Origin::Let(place_of(scope, number)?);
+    equate_written(cx, scope, bindings, place, origin, annotation, found)?;
     is_of(cx, scope, bindings, number, found)
 }
 
@@ -253,6 +258,7 @@ fn equate_written(
     scope: Scope<'_>,
     bindings: &mut Bindings,
     place: Place,
+    origin: Origin,
     annotation: Option<usize>,
     found: Ty,
 ) -> Result<(), Failure>
@@ -265,7 +271,7 @@ fn equate_written(
     match annotation {
         Some(annotation) => {
             let expected = written(cx, scope, annotation)?;
-            equate(cx, bindings, place, expected, found)
+            equate(cx, bindings, place, origin, expected, found)
         }
         None => Ok(()),
     }

@@ -23,17 +23,14 @@ pub struct Mistake {
 #[derive(Debug, Drop)]
 pub enum Cause {
     /// A type was found in place of another one.
-    Mismatch {
-        expected: Ty,
-        found: Ty,
-    },
+    Mismatch(Clash),
     /// The two types are equal only if a type is a part of itself.
-    ContainsItself {
-        expected: Ty,
-        found: Ty,
+    ContainsItself(Clash),
+    /// The type of a value isn't known where it has to be. If there is a `let` of it, a type could be written there.
+    UnknownType {
+        ty: Ty,
+        binding: Option<Place>,
     },
-    /// The type of a value isn't known where it has to be.
-    UnknownType(Ty),
     /// Nothing determines the type arguments of this function.
     UnknownArguments(Ty),
     /// The type has no field of this name.
@@ -46,6 +43,44 @@ pub enum Cause {
         expected: usize,
         given: usize,
     },
+}
+
+/// Two types that can't be made equal.
+#[derive(Clone, Copy, Debug, PartialEq, Eq)]
+pub struct Clash {
+    pub types: Pair,
+    /// Where the types differ: their innermost parts that can't be made equal, or the types themselves.
+    pub parts: Pair,
+    pub origin: Origin,
+}
+
+/// A type that is expected, and the one that was found in its place.
+#[derive(Clone, Copy, Debug, PartialEq, Eq)]
+pub struct Pair {
+    pub expected: Ty,
+    pub found: Ty,
+}
+
+/// Where the type that is expected of an expression comes from.
+#[derive(Clone, Copy, Debug, PartialEq, Eq)]
+pub enum Origin {
+    /// The item's argument or field of this number, from 0.
+    Operand { owner: Item, number: usize },
+    /// The result of the function with the name of this number, which is declared at this place.
+    Result { name: usize, declared: Place },
+    /// The type that is written at the `let` at this place.
+    Let(Place),
+    /// The `*` before the expression.
+    Dereference,
+    /// The expression itself, by its form. No program is known where this differs from the type that was found.
+    Form,
+}
+
+/// A function or a data type of the program, by its number.
+#[derive(Clone, Copy, Debug, PartialEq, Eq)]
+pub enum Item {
+    Function(usize),
+    Data(usize),
 }
 
 /// What has to be known: the type of an expression, or the type arguments of a function that is called.
@@ -66,15 +101,14 @@ fn shown(cx: &mut Interner, bindings: &Bindings, ty: Ty) -> Result<Ty, Failure>
     Ok(bindings.resolve(cx, ty)?)
 }
 
-/// Returns the cause that a type was found in place of another one.
+// Returns the two types with their variables replaced.
 #[tactic(auto, using(crate::proofs::ClientLaws::growth_laws))]
-pub fn mismatch(
+fn shown_pair(
     cx: &mut Interner,
     bindings: &Bindings,
     expected: Ty,
     found: Ty,
-    fault: Fault,
-) -> Result<Cause, Failure>
+) -> Result<Pair, Failure>
     requires table { IsTable cx.old bindings.now }
     requires expected { IsOwned ty_shape cx.old expected }
     requires found { IsOwned ty_shape cx.old found }
@@ -83,19 +117,68 @@ pub fn mismatch(
 {
     let expected = shown(cx, bindings, expected)?;
     let found = shown(cx, bindings, found)?;
-    if let Fault::Occurs(_, _) = fault {
-        return Ok(Cause::ContainsItself { expected, found });
-    }
-    Ok(Cause::Mismatch { expected, found })
+    Ok(Pair { expected, found })
 }
 
-/// Returns the cause that a type isn't known, or that nothing determines the type arguments in it.
+// Returns the parts of these types with their variables replaced, or the types if the parts aren't the interner's.
+#[tactic(auto, using(crate::proofs::ClientLaws::growth_laws))]
+fn shown_parts(
+    cx: &mut Interner,
+    bindings: &Bindings,
+    types: Pair,
+    parts: Pair,
+) -> Result<Pair, Failure>
+    requires { IsTable cx.old bindings.now }
+    ensures extends { Extends cx.old cx.new }
+    ensures table { IsTable cx.new bindings.now }
+{
+    let (expected, found) = (parts.expected, parts.found);
+    // A part of a type of this interner is one too.
+    if !cx.owns_ty(expected) || !cx.owns_ty(found) {
+        return Ok(types);
+    }
+    shown_pair(cx, bindings, expected, found)
+}
+
+/// Returns the cause that a type was found in place of another one, which differ in these parts.
+#[tactic(auto, using(crate::proofs::ClientLaws::growth_laws))]
+pub fn mismatch(
+    cx: &mut Interner,
+    bindings: &Bindings,
+    expected: Ty,
+    found: Ty,
+    parts: Pair,
+    origin: Origin,
+    fault: Fault,
+) -> Result<Cause, Failure>
+    requires table { IsTable cx.old bindings.now }
+    requires expected { IsOwned ty_shape cx.old expected }
+    requires found { IsOwned ty_shape cx.old found }
+    ensures extends { Extends cx.old cx.new }
+    ensures table { IsTable cx.new bindings.now }
+{
+    let types = shown_pair(cx, bindings, expected, found)?;
+    let parts = shown_parts(cx, bindings, types, parts)?;
+    let clash = Clash {
+        types,
+        parts,
+        origin,
+    };
+    if let Fault::Occurs(_, _) = fault {
+        return Ok(Cause::ContainsItself(clash));
+    }
+    Ok(Cause::Mismatch(clash))
+}
+
+/// Returns the cause that a type isn't known, which could be written at this `let`, or that nothing determines the type
+/// arguments in it.
 #[tactic(auto, using(crate::proofs::ClientLaws::growth_laws))]
 pub fn unknown_type(
     cx: &mut Interner,
     bindings: &Bindings,
     ty: Ty,
     wanted: Wanted,
+    binding: Option<Place>,
 ) -> Result<Cause, Failure>
     requires table { IsTable cx.old bindings.now }
     requires ty { IsOwned ty_shape cx.old ty }
@@ -104,7 +187,7 @@ pub fn unknown_type(
 {
     let known = shown(cx, bindings, ty)?;
     match wanted {
-        Wanted::Type => Ok(Cause::UnknownType(known)),
+        Wanted::Type => Ok(Cause::UnknownType { ty: known, binding }),
         Wanted::Arguments => Ok(Cause::UnknownArguments(known)),
     }
 }

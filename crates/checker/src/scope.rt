@@ -11,7 +11,7 @@ ghost use Rattle.checker.specs.Typing.{Writes};
 use crate::declared::Declared;
 use crate::failure::Failure;
 use crate::lookup::{at, type_at, type_before, types_before};
-use checker_syntax::program::{Body, Function, Place, Program};
+use checker_syntax::program::{Body, Expression, Function, Place, Program};
 use type_terms::{Interner, Ty};
 
 /// A function's body, what is declared around it, and the types of its expressions. During inference these types are
@@ -28,6 +28,22 @@ pub struct Scope<'a> {
 /// Returns where the expression of this number begins.
 pub fn place_of(scope: Scope<'_>, number: usize) -> Result<Place, Failure> {
     at(scope.body.places.as_slice(), number)
+}
+
+/// Returns where the `let` is whose variable the expression of this number is, or whose value.
+pub fn let_of(scope: Scope<'_>, number: usize) -> Option<Place> {
+    let expressions = scope.body.expressions.as_slice();
+    if let Some(Expression::Local(binding)) = expressions.get(number) {
+        return place_of(scope, *binding).ok();
+    }
+    for (index, expression) in expressions.iter().enumerate() {
+        if let Expression::Let(value, _) = expression
+            && *value == number
+        {
+            return place_of(scope, index).ok();
+        }
+    }
+    None
 }
 
 /// Returns the type of the expression of this number.

@@ -2,7 +2,8 @@
 
 use crate::failure::Failure;
 use crate::programs::{check, mistakes, variables};
-use crate::wording::message_of;
+use crate::report::{Extent, Report};
+use crate::wording::report_of;
 use checker_syntax::message::Message;
 use checker_syntax::program::Program;
 use checker_syntax::read_leniently;
@@ -17,9 +18,9 @@ use type_terms::Interner;
 pub enum Verdict {
     /// The program is accepted. The text has a line for each variable: the place of its `let`, and its type.
     Accepted(String),
-    /// The program is wrong, as the messages say. A function's body has one message at most. Messages about what is
+    /// The program is wrong, as the reports say. A function's body has one report at most. Reports about what is
     /// written come first, then those about types.
-    Wrong(Vec<Message>),
+    Wrong(Vec<Report>),
     /// The program wasn't checked to its end, for this reason.
     GivenUp(Failure),
 }
@@ -44,17 +45,30 @@ fn verdict_or_failure(alloc: Global, source: &str) -> Result<Verdict, Failure> {
         }
         Err(SyntaxError::Wrong(message)) => {
             messages.push(message)?;
-            Ok(Verdict::Wrong(messages))
+            Ok(Verdict::Wrong(plain_reports(alloc, messages)?))
         }
         Err(SyntaxError::Memory) => Err(Failure::from(AllocError)),
     }
+}
+
+// Returns the messages about what is written, which have no notes.
+fn plain_reports(alloc: Global, messages: Vec<Message>) -> Result<Vec<Report>, AllocError> {
+    let mut reports = Vec::new(alloc);
+    for message in messages {
+        reports.push(Report {
+            message,
+            extent: Extent::Token,
+            notes: Vec::new(alloc),
+        })?;
+    }
+    Ok(reports)
 }
 
 // Returns the verdict on the program, of which the messages were read.
 fn checked(
     cx: &mut Interner,
     program: &Program,
-    mut messages: Vec<Message>,
+    messages: Vec<Message>,
 ) -> Result<Verdict, Failure> {
     if messages.is_empty() {
         match check(cx, program) {
@@ -66,13 +80,14 @@ fn checked(
             Err(failure) => return Err(failure),
         }
     }
+    let mut reports = plain_reports(cx.allocator(), messages)?;
     for mistake in mistakes(cx, program)? {
-        messages.push(message_of(cx, &mistake)?)?;
+        reports.push(report_of(cx, program, &mistake)?)?;
     }
-    if messages.is_empty() {
+    if reports.is_empty() {
         return Err(Failure::Unverified);
     }
-    Ok(Verdict::Wrong(messages))
+    Ok(Verdict::Wrong(reports))
 }
 
 /// Reads a program from the input, writes the verdict to the output, and returns whether the program is accepted. An
@@ -99,9 +114,9 @@ pub fn run<R: Read + Drop, W: Write + Drop>(
             output.write_all(b"accepted\n")?;
             true
         }
-        Verdict::Wrong(messages) => {
-            for message in messages {
-                writeln!(output, "{message}")?;
+        Verdict::Wrong(reports) => {
+            for report in reports.iter() {
+                writeln!(output, "{}", report.message)?;
             }
             false
         }

@@ -138,6 +138,18 @@ fn note_arguments(
     Ok(())
 }
 
+/// Returns the name of the function or data type of which the type is an instance, or an empty text if it is none.
+pub fn item_name(cx: &Interner, ty: Ty) -> &str {
+    if !cx.owns_ty(ty) {
+        return "";
+    }
+    match *ty.kind(cx) {
+        TyKind::Adt(id, _) => name_of(cx, id.into()),
+        TyKind::FnDef(id, _) => name_of(cx, id.into()),
+        _ => "",
+    }
+}
+
 // Returns the name of an item. Each item of a program is declared.
 fn name_of(cx: &Interner, id: DefId) -> &str {
     if !cx.owns_def_id(id) {

@@ -85,7 +85,7 @@ pub tested : (b : Bool) → not b ≡ false → b ≡ true
 tested true e = refl
 tested false e = absurd (true≢false e)
 
-table_exact : (s s' : TermTable) → (tables.ghosts).eq s s' ≡ true → s ≡ s'
+pub table_exact : (s s' : TermTable) → (tables.ghosts).eq s s' ≡ true → s ≡ s'
 table_exact terms_of.Types terms_of.Types e = refl
 table_exact terms_of.Consts terms_of.Consts e = refl
 table_exact terms_of.Patterns terms_of.Patterns e = refl

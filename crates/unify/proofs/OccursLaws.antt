@@ -19,15 +19,13 @@ use Rattle.tt_kinds.specs.declared.parts.Kind.TheVariants as kind
 use Rattle.tt_interner.specs.Rows.{Row, type_row, const_row, pat_row, predicate_row, existential_row, clauses_row}
 use Rattle.tt_interner.specs.Rows.{tys_row, consts_row, args_row, pats_row, vars_row, existentials_row, assumptions_row}
 use Rattle.tt_interner.specs.Rows.{text_row, declared_row, defined_row, row_shape, is_in, table, size, meaning, AreRows}
-use Rattle.tt_interner.specs.Stored.{Terms}
 use Rattle.tt_fold.specs.Steps.{tree_in}
-use Rattle.unify.specs.Substitution.{Substitution, Assignment, variable_of, variable_in, bound_to, apply, every}
-use Rattle.unify.specs.Substitution.{assign, assign_all, IsWithout, AreWithout, Solves}
-use Rattle.unify.specs.Bindings.{substitution}
+use Rattle.unify.specs.Substitution.{Substitution, Assignment, variable_of, variable_in, bound_to, every}
+use Rattle.unify.specs.Substitution.{assign, assign_all, IsWithout, AreWithout}
 use Rattle.unify.specs.Triangular.{weight, weights}
 use Rattle.unify.proofs.SubstitutionLaws.{no_variable}
 use Rattle.unify.proofs.FormEqualities.{contents, IsBare, kind_bare}
-use Rattle.unify.proofs.GeneralLaws.{solution_factors, variable_assigned}
+use Rattle.unify.proofs.GeneralLaws.{variable_assigned}
 
 abbrev mutual
   -- no variable in the tree has contents
@@ -181,12 +179,3 @@ meaning_proper (r ∷ rows) are t n =
 pub type_proper : (rows : List Row) → AreRows rows → (t : Ty) → IsProper (tree_in rows (ty_shape t))
 unfolding fill
 type_proper rows are t = meaning_proper rows are Types t.number
-
--- what solves bindings doesn't make a variable and a type equal that resolves to one that holds it
-pub occurs_fails : (ρ : Assignment) (terms a : Terms) (xs : List (Option Ty)) (v : ℕ) (given t : Ty) → AreRows a.rows
-    → tree_in a.rows (ty_shape t) ≡ apply (substitution terms xs) (tree_in terms.rows (ty_shape given))
-    → (variable_in (tree_in a.rows (ty_shape t)) ≡ Some v → ⊥) → (IsWithout v (tree_in a.rows (ty_shape t)) → ⊥)
-    → ρ v ≡ assign ρ (tree_in terms.rows (ty_shape given)) → Solves ρ (substitution terms xs) → ⊥
-occurs_fails ρ terms a xs v given t are resolves other within equal solves =
-    within (never_within ρ v (tree_in a.rows (ty_shape t)) (type_proper a.rows are t) other
-    (equal ∙ sym (solution_factors ρ (substitution terms xs) solves (tree_in terms.rows (ty_shape given))) ∙ ap (assign ρ) (sym resolves)))

@@ -16,10 +16,10 @@ use Rattle.tt_interner.specs.Stored.{Terms}
 use Rattle.tt_interner.proofs.OwnedLaws.{some_owned}
 use Rattle.tt_interner.proofs.Trees.{row_within, Means-row}
 use Rattle.tt_fold.specs.Steps.{tree_in}
-use Rattle.unify.specs.Substitution.{Substitution, variable_of, apply, apply_all, or_else, assign, assign_all}
-use Rattle.unify.specs.Substitution.{as_assignment, variable_tree, Solves, IsOwn, IsType}
-use Rattle.unify.specs.Bindings.{IsTable, substitution}
-use Rattle.unify.proofs.SubstitutionLaws.{resolved_stays, same_binding}
+use Rattle.unify.specs.Substitution.{Substitution, variable_of, apply, apply_all, assign, assign_all}
+use Rattle.unify.specs.Substitution.{as_assignment, IsType}
+use Rattle.unify.specs.Bindings.{stored}
+use Rattle.unify.proofs.SubstitutionLaws.{same_binding}
 use Rattle.unify.proofs.BindingsLaws.{bound_tree, reads}
 use Rattle.unify.proofs.OccursLaws.{IsProper, AreProper, type_proper}
 
@@ -44,20 +44,13 @@ module _ (σ : Substitution) where
     all_apply (tree.also t ts) proper = rw (assigned_applies t proper.0, all_apply ts proper.1) refl
 
 module _ (terms : Terms) (entries : List (Option Ty)) (are : AreRows terms.rows) where
-  pub entry_proper : (v : ℕ) (o : Option Ty) → get_or entries v None ≡ o → (r : Tree Depth) → substitution terms entries v ≡ Some r → IsProper r
+  pub entry_proper : (v : ℕ) (o : Option Ty) → get_or entries v None ≡ o → (r : Tree Depth) → stored terms entries v ≡ Some r → IsProper r
   entry_proper v None e r is =
-      let nothing : substitution terms entries v ≡ None = reads terms entries v ∙ ap (bound_tree (meaning terms.rows)) e in
+      let nothing : stored terms entries v ≡ None = reads terms entries v ∙ ap (bound_tree (meaning terms.rows)) e in
       absurd (cc)
   entry_proper v (Some t) e r is =
-      let some : substitution terms entries v ≡ Some (tree_in terms.rows (ty_shape t)) = reads terms entries v ∙ ap (bound_tree (meaning terms.rows)) e in
+      let some : stored terms entries v ≡ Some (tree_in terms.rows (ty_shape t)) = reads terms entries v ∙ ap (bound_tree (meaning terms.rows)) e in
       subst IsProper (same_binding (tree_in terms.rows (ty_shape t)) r (sym some ∙ is)) (type_proper terms.rows are t)
-
-  -- a table's bindings, as an assignment, solve the table
-  pub bindings_solve : IsTable terms entries → Solves (as_assignment (substitution terms entries)) (substitution terms entries)
-  bindings_solve table v r is =
-      ap (λ o. or_else o (variable_tree v)) is
-      ∙ sym (assigned_applies (substitution terms entries) r (entry_proper v (get_or entries v None) refl r is)
-      ∙ resolved_stays (substitution terms entries) r (table.idempotent v r is))
 
 form_is_type : (m : Meaning) (f : Form TypeLabel) → IsType (fill m (form_shape type_sort (relabelled type_label f)))
 unfolding fill
@@ -87,26 +80,3 @@ pub past_end : (xs : List (Option Ty)) (v : ℕ) → length xs ≤ v → get_or 
 past_end [] v h = refl
 past_end (x ∷ xs) zero h = absurd (omega (arith, h))
 past_end (x ∷ xs) (suc v) h = past_end xs v (omega (arith, h))
-
-module _ (terms : Terms) (entries : List (Option Ty)) (are : AreRows terms.rows) (table : IsTable terms entries) where
-  value_is_type : (v : ℕ) (o : Option Ty) → get_or entries v None ≡ o → IsType (as_assignment (substitution terms entries) v)
-  value_is_type v None e =
-      subst (λ b. IsType (or_else b (variable_tree v))) (sym (reads terms entries v ∙ ap (bound_tree (meaning terms.rows)) e)) refl
-  value_is_type v (Some t) e =
-      subst (λ b. IsType (or_else b (variable_tree v))) (sym (reads terms entries v ∙ ap (bound_tree (meaning terms.rows)) e))
-      (tree_is_type terms t are (entry_inside terms entries v t e table.owned.2))
-
-  -- a table's bindings, as an assignment, are one to the table's variables alone
-  pub bindings_own : IsOwn (length entries) (as_assignment (substitution terms entries))
-  bindings_own = record {
-    types = λ v. value_is_type v (get_or entries v None) refl;
-    leaves = λ v outside. ap (λ o. or_else o (variable_tree v)) (reads terms entries v ∙ ap (bound_tree (meaning terms.rows)) (past_end entries v outside));
-  }
-
-  -- two types that resolve to one have a unifier that is an assignment to the table's variables alone
-  pub resolved_unify : (left right : Ty) → apply (substitution terms entries) (tree_in terms.rows (ty_shape left)) ≡ apply (substitution terms entries) (tree_in terms.rows (ty_shape right))
-      → assign (as_assignment (substitution terms entries)) (tree_in terms.rows (ty_shape left)) ≡ assign (as_assignment (substitution terms entries)) (tree_in terms.rows (ty_shape right))
-  resolved_unify left right same =
-      let σ : Substitution = substitution terms entries in
-      assigned_applies σ (tree_in terms.rows (ty_shape left)) (type_proper terms.rows are left) ∙ same
-      ∙ sym (assigned_applies σ (tree_in terms.rows (ty_shape right)) (type_proper terms.rows are right))

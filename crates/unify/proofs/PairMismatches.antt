@@ -34,7 +34,7 @@ use Rattle.tt_fold.specs.Steps.{tree_in}
 use Rattle.unify.specs.Substitution.{Substitution, Assignment, GivesTypes, LeavesRoot, IsIdempotent, IsResolved, Solves}
 use Rattle.unify.specs.Substitution.{variable_of, variable_in, bound_to, assign, assign_all}
 use Rattle.unify.specs.Resolver.{binding}
-use Rattle.unify.specs.Bindings.{substitution}
+use Rattle.unify.specs.Bindings.{stored}
 use Rattle.unify.specs.Faults.{IsMismatch}
 use Rattle.unify.specs.Pairs.{pair_shape, Equates, EquatesTypes, HasNoOwnSolution, IsNoList}
 use Rattle.unify.specs.declared.fault.Fault.{Fault}
@@ -83,7 +83,7 @@ label_root (type_label (infer_type (TyVar w))) v is = refl
 label_root l v is = absurd (cc)
 
 -- a variable's tree is a type's
-variable_root : (t : Tree Depth) (v : ℕ) → variable_in t ≡ Some v → tree_table t ≡ Some Types
+pub variable_root : (t : Tree Depth) (v : ℕ) → variable_in t ≡ Some v → tree_table t ≡ Some Types
 variable_root (tree.term l ts) v is = label_root l v is
 variable_root t v is = absurd (cc)
 
@@ -136,7 +136,7 @@ module _ (a : Terms) (xs : List (Option Ty)) (ps : List Pair) where
       → assign ρ (tree_in a.rows (ty_shape l)) ≢ assign ρ (tree_in a.rows (ty_shape r)))
       → ((v : ℕ) → variable_in (tree_in a.rows (ty_shape l)) ≡ Some v → length xs ≤ v)
       → ((v : ℕ) → variable_in (tree_in a.rows (ty_shape r)) ≡ Some v → length xs ≤ v)
-      → ((ρ : Assignment) → Solves ρ (substitution a xs) → EquatesTypes ρ a left right → EquatesTypes ρ a l r)
+      → ((ρ : Assignment) → Solves ρ (stored a xs) → EquatesTypes ρ a left right → EquatesTypes ρ a l r)
       → HasNoOwnSolution (λ ρ. EquatesTypes ρ a left right) a xs ps
   types_mismatch left right l r apart foreign foreign' met = record {
     never = λ ρ meets solution.
@@ -216,22 +216,22 @@ binding_unbound σ (tree.term l ts) r idempotent h =
 binding_unbound σ _ r idempotent h = absurd (cc)
 
 -- a type that was looked up, and is no unbound variable of the table, is no variable of the table
-pub foreign_by : (a : Terms) (xs ys zs : List (Option Ty)) (t : Tree Depth) → ys ≡ xs → zs ≡ xs → IsIdempotent (substitution a xs)
-    → (IsIdempotent (substitution a ys) → binding (substitution a ys) t ≡ None)
-    → ((v : ℕ) → variable_in t ≡ Some v → binding (substitution a zs) t ≡ None → length zs ≤ v)
+pub foreign_by : (a : Terms) (xs ys zs : List (Option Ty)) (t : Tree Depth) → ys ≡ xs → zs ≡ xs → IsIdempotent (stored a xs)
+    → (IsIdempotent (stored a ys) → binding (stored a ys) t ≡ None)
+    → ((v : ℕ) → variable_in t ≡ Some v → binding (stored a zs) t ≡ None → length zs ≤ v)
     → (v : ℕ) → variable_in t ≡ Some v → length xs ≤ v
 foreign_by a xs ys zs t e f idempotent unbound foreign v is =
-    let none = subst (λ ws. IsIdempotent (substitution a ws) → binding (substitution a ws) t ≡ None) e unbound idempotent in
-    subst (λ ws. (v : ℕ) → variable_in t ≡ Some v → binding (substitution a ws) t ≡ None → length ws ≤ v) f foreign v is none
+    let none = subst (λ ws. IsIdempotent (stored a ws) → binding (stored a ws) t ≡ None) e unbound idempotent in
+    subst (λ ws. (v : ℕ) → variable_in t ≡ Some v → binding (stored a ws) t ≡ None → length ws ≤ v) f foreign v is none
 
 -- a type that is looked up is no bound variable
-pub looked_up_unbound : (a : Terms) (xs : List (Option Ty)) (ty result : Ty) (o : Option Ty) → EntrySays a (substitution a xs) (tree_in a.rows (ty_shape ty)) o
-    → result ≡ unwrap_or o ty → IsIdempotent (substitution a xs) → binding (substitution a xs) (tree_in a.rows (ty_shape result)) ≡ None
+pub looked_up_unbound : (a : Terms) (xs : List (Option Ty)) (ty result : Ty) (o : Option Ty) → EntrySays a (stored a xs) (tree_in a.rows (ty_shape ty)) o
+    → result ≡ unwrap_or o ty → IsIdempotent (stored a xs) → binding (stored a xs) (tree_in a.rows (ty_shape result)) ≡ None
 looked_up_unbound a xs ty result None says is idempotent =
-    subst (λ t. binding (substitution a xs) (tree_in a.rows (ty_shape t)) ≡ None) (sym is) says
+    subst (λ t. binding (stored a xs) (tree_in a.rows (ty_shape t)) ≡ None) (sym is) says
 looked_up_unbound a xs ty result (Some b) says is idempotent =
-    subst (λ t. binding (substitution a xs) (tree_in a.rows (ty_shape t)) ≡ None) (sym is)
-    (binding_unbound (substitution a xs) (tree_in a.rows (ty_shape ty)) (tree_in a.rows (ty_shape b)) idempotent says)
+    subst (λ t. binding (stored a xs) (tree_in a.rows (ty_shape t)) ≡ None) (sym is)
+    (binding_unbound (stored a xs) (tree_in a.rows (ty_shape ty)) (tree_in a.rows (ty_shape b)) idempotent says)
 
 -- a variable whose entry has a type is bound
 pub entry_bound : (terms : Terms) (σ : Substitution) (t : Tree Depth) (o : Option Ty) (b : Ty) → EntrySays terms σ t o → o ≡ Some b → binding σ t ≡ None → ⊥

@@ -13,7 +13,7 @@ use Rattle.tt_interner.specs.Owned.{AreOwned}
 use Rattle.tt_interner.specs.Stored.{Terms, Extends}
 use Rattle.tt_fold.specs.Steps.{tree_in}
 use Rattle.unify.specs.Substitution.{Assignment, variable_in, assign, assign_all, Solves}
-use Rattle.unify.specs.Bindings.{substitution}
+use Rattle.unify.specs.Bindings.{stored}
 use Rattle.unify.specs.Pairs.{pair_shape, child_trees, Equates, EquatesAll, EquatesTypes, HasNoSolution, KeepsSolutions}
 use Rattle.unify.specs.Faults.{IsOccurs}
 use Rattle.unify.specs.declared.fault.Fault.{Fault}
@@ -29,25 +29,25 @@ module _ (a : Terms) (xs : List (Option Ty)) where
 
   -- a step that leaves the bindings keeps the solutions that make the new pairs equal
   pub pairs_keep : (Meets : Assignment → Type 0) (ps qs : List Pair)
-      → ((ρ : Assignment) → Meets ρ → Solves ρ (substitution a xs) → EquatesAll ρ a ps → EquatesAll ρ a qs) → KeepsSolutions Meets a xs ps a xs qs
+      → ((ρ : Assignment) → Meets ρ → Solves ρ (stored a xs) → EquatesAll ρ a ps → EquatesAll ρ a qs) → KeepsSolutions Meets a xs ps a xs qs
   pairs_keep Meets ps qs equates = record {
     keep = λ ρ meets solution. record { solves = solution.solves; equates = equates ρ meets solution.solves solution.equates };
   }
 
   -- two types that become one tree: so do their bindings, or the types themselves where they have none
   pub looked_up_met : (ys zs : List (Option Ty)) (left right l r : Ty) → ys ≡ xs → zs ≡ xs
-      → ((ρ : Assignment) → Solves ρ (substitution a ys) → EquatesTypes ρ a left l)
-      → ((ρ : Assignment) → Solves ρ (substitution a zs) → EquatesTypes ρ a right r)
-      → (ρ : Assignment) → Solves ρ (substitution a xs) → EquatesTypes ρ a left right → EquatesTypes ρ a l r
+      → ((ρ : Assignment) → Solves ρ (stored a ys) → EquatesTypes ρ a left l)
+      → ((ρ : Assignment) → Solves ρ (stored a zs) → EquatesTypes ρ a right r)
+      → (ρ : Assignment) → Solves ρ (stored a xs) → EquatesTypes ρ a left right → EquatesTypes ρ a l r
   looked_up_met ys zs left right l r e f same same' ρ solves met =
-      sym (same ρ (subst (λ s. Solves ρ (substitution a s)) (sym e) solves)) ∙ met ∙ same' ρ (subst (λ s. Solves ρ (substitution a s)) (sym f) solves)
+      sym (same ρ (subst (λ s. Solves ρ (stored a s)) (sym e) solves)) ∙ met ∙ same' ρ (subst (λ s. Solves ρ (stored a s)) (sym f) solves)
 
   -- binding a variable keeps the solutions that make it and the type equal
   pub bound_keeps : {T E : Type 0} (b : Terms) (result : Result T E) (items : T → List (Option Ty)) (ps : List Pair) (left right variable other : Ty) (v : ℕ)
-      → IfOk result (λ e. (ρ : Assignment) → ρ v ≡ assign ρ (tree_in a.rows (ty_shape other)) → Solves ρ (substitution a xs) → Solves ρ (substitution b (items e)))
+      → IfOk result (λ e. (ρ : Assignment) → ρ v ≡ assign ρ (tree_in a.rows (ty_shape other)) → Solves ρ (stored a xs) → Solves ρ (stored b (items e)))
       → Extends a b → AreOwned pair_shape a ps
       → variable_in (tree_in a.rows (ty_shape variable)) ≡ Some v
-      → ((ρ : Assignment) → Solves ρ (substitution a xs) → EquatesTypes ρ a left right → EquatesTypes ρ a variable other)
+      → ((ρ : Assignment) → Solves ρ (stored a xs) → EquatesTypes ρ a left right → EquatesTypes ρ a variable other)
       → IfOk result (λ e. KeepsSolutions (λ ρ. EquatesTypes ρ a left right) a xs ps b (items e) ps)
   bound_keeps b (Ok e) items ps left right variable other v general extends owned is met = record {
     keep = λ ρ meets solution. record {
@@ -66,9 +66,9 @@ module _ (a : Terms) (xs : List (Option Ty)) where
 
   -- where binding a variable has no solution, two types that would become it and the type have none
   pub bound_never : {T : Type 0} (result : Result T Fault) (ps : List Pair) (left right variable other : Ty) (v : ℕ)
-      → IfErr result (λ f. IsOccurs f → (ρ : Assignment) → ρ v ≡ assign ρ (tree_in a.rows (ty_shape other)) → Solves ρ (substitution a xs) → ⊥)
+      → IfErr result (λ f. IsOccurs f → (ρ : Assignment) → ρ v ≡ assign ρ (tree_in a.rows (ty_shape other)) → Solves ρ (stored a xs) → ⊥)
       → variable_in (tree_in a.rows (ty_shape variable)) ≡ Some v
-      → ((ρ : Assignment) → Solves ρ (substitution a xs) → EquatesTypes ρ a left right → EquatesTypes ρ a variable other)
+      → ((ρ : Assignment) → Solves ρ (stored a xs) → EquatesTypes ρ a left right → EquatesTypes ρ a variable other)
       → IfErr result (λ f. IsOccurs f → HasNoSolution (λ ρ. EquatesTypes ρ a left right) a xs ps)
   bound_never (Ok e) ps left right variable other v never is met = tt
   bound_never (Err f) ps left right variable other v never is met = λ occurs. record {

@@ -1,20 +1,14 @@
 -- The promises of a call of `unify`, from what its loop over pairs and its search give.
-use Rattle.std.proofs.Common.{◌≡◌, refl, ℕ, [], ◌+◌, ◌<◌, ◌≤◌, Option, Some, None, subst, ap, ◌⊎◌, inl, inr, arith}
+use Rattle.std.proofs.Common.{◌≡◌, refl, ℕ, [], ◌+◌, ◌<◌, ◌≤◌, Option, Some, None, subst, ◌⊎◌, inl, inr, arith}
 use Rattle.tt_kinds.specs.Tree.{Depth, Tree}
 use Rattle.unify.specs.Substitution.{Substitution, Assignment, apply, assign, IsWithout, Refines, Solves}
 use Rattle.unify.specs.Substitution.{IsMostGeneral, IsOwn, HasNoUnifier, HasNoOwnUnifier}
 use Rattle.unify.specs.Triangular.{Represents, IsBelow, IsAcyclic, BindsBelow, model, Holds, Pairs, Rests, Linked}
-use Rattle.unify.specs.Triangular.{IsChild, Searched}
-use Rattle.unify.specs.Search.{Mark, fresh, entered, done, done_rank, Searches}
+use Rattle.unify.specs.Triangular.{Searched}
 use Rattle.unify.proofs.OccursLaws.{IsProper, AllProper}
 use Rattle.unify.proofs.TriangularLaws.{model_represents, model_solved, model_refines, entries_solved}
 use Rattle.unify.proofs.TriangularSteps.{is_without}
 use Rattle.unify.proofs.TriangularPairs.{unified}
-
-was_done : (m : Mark) (r : ℕ) → done_rank m ≡ Some r → m ≡ done r
-was_done (done q) r e = let same : q ≡ r = cc in ap done same
-was_done fresh r e = absurd (cc)
-was_done entered r e = absurd (cc)
 
 -- a variable's rank: the search's, or the old one above all of these
 ranked : ℕ → ℕ → Option ℕ → ℕ
@@ -64,16 +58,6 @@ search_acyclic entries later found next acyclic searched met =
       | inl old ↦ acyclic.falls v t old
       | inr new ↦ absurd (let some = new.1 in cc)
     ])
-
--- a search whose stack is empty has found ranks
-pub search_ends : (entries : Substitution) (marks : ℕ → Mark) (next : ℕ) → Searches (IsChild entries) marks [] next
-    → Searched entries (λ v. done_rank (marks v)) next
-search_ends entries marks next searches = record {
-  below = λ v r at. searches.below v r (was_done (marks v) r at);
-  above = λ v r at u c.
-      let q = searches.above v r (was_done (marks v) r at) u c in
-      (q.0, (ap done_rank q.1.0, q.1.1));
-}
 
 module _ (entries later : Substitution) (n m : ℕ) (before : IsAcyclic entries) (after : IsAcyclic later)
     (few : BindsBelow n entries) (more : BindsBelow m later) where

@@ -48,12 +48,12 @@ module _ (σ τ : Substitution) where
         rw (applies_same t (λ v. left_same (h v)), all_same ts (λ v. right_same (h v))) refl
 
 -- how many of the first n variables have a rank below k
-count : (ℕ → ℕ) → ℕ → ℕ → ℕ
+pub count : (ℕ → ℕ) → ℕ → ℕ → ℕ
 count rank k zero = 0
 count rank k (suc n) = min 1 (k - rank n) + count rank k n
 
 module _ (rank : ℕ → ℕ) where
-  count_most : (k n : ℕ) → count rank k n ≤ n
+  pub count_most : (k n : ℕ) → count rank k n ≤ n
   unfolding count
   count_most k zero = omega arith
   count_most k (suc n) = let less = count_most k n in omega arith
@@ -64,7 +64,7 @@ module _ (rank : ℕ → ℕ) where
   count_grows j k (suc n) h = let less = count_grows j k n h in omega arith
 
   -- a variable that counts for k alone
-  count_less : (j k n u : ℕ) → u < n → j ≤ rank u → rank u < k → count rank j n < count rank k n
+  pub count_less : (j k n u : ℕ) → u < n → j ≤ rank u → rank u < k → count rank j n < count rank k n
   unfolding count
   count_less j k zero u inside low high = absurd (omega arith)
   count_less j k (suc n) u inside low high = elim (cases_eq u n) [

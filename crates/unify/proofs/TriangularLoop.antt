@@ -1,10 +1,12 @@
 -- The loop pops a pair, and pushes the pairs of the parts of two terms. A round keeps what the loop keeps.
 use Rattle.std.proofs.Common.{◌≡◌, refl, ℕ, List, [], ◌∷◌, ◌++◌, length, Option, Some, sym, subst, ap, ◌∙◌, ◌⊎◌, inl}
-use Rattle.std.proofs.Common.{inr, not, false}
+use Rattle.std.proofs.Common.{inr, not, false, zero, suc, All, arith}
+use Rattle.std.proofs.lemmas.Option.{none-some, same_Some}
+use Rattle.std.specs.Prelude.{slice_get}
 use Rattle.tt_kinds.specs.Tree as tree
 use Rattle.tt_kinds.specs.Tree.{Depth, Tree, Forest}
 use Rattle.tt_kinds.specs.Shape.{Meaning, fill, fill_all}
-use Rattle.tt_kinds.specs.Parts.{child_sort, child_in, AreLike}
+use Rattle.tt_kinds.specs.Parts.{child_sort, child_in, AreLike, IsItem}
 use Rattle.tt_kinds.specs.Kinds.{form_parts, refilled, kind_form, kind_table, kind_shape, child_shapes, handle_shape}
 use Rattle.tt_kinds.specs.Kinds.{ty_shape}
 use Rattle.tt_kinds.specs.Handle.{Ty}
@@ -13,6 +15,7 @@ use Rattle.tt_kinds.specs.declared.parts.Child.TheVariants as child
 use Rattle.tt_kinds.specs.declared.parts.Parts.{Parts}
 use Rattle.tt_kinds.specs.declared.parts.Kind.{Kind}
 use Rattle.tt_kinds.specs.declared.handle.AnyHandle.{AnyHandle}
+use Rattle.tt_kinds.specs.declared.table.TermTable.{TermTable}
 use Rattle.tt_kinds.specs.declared.table.TermTable.TheVariants as terms_of
 use Rattle.tt_kinds.specs.contracts.parts.KindPartialEq.TheImpl as kinds
 use Rattle.tt_interner.specs.Rows.{meaning}
@@ -21,9 +24,10 @@ use Rattle.tt_interner.specs.Stored.{Terms}
 use Rattle.unify.specs.Substitution.{Substitution, Assignment, Solves}
 use Rattle.unify.specs.Bindings.{table_shape}
 use Rattle.unify.specs.Pairs.{child_trees, EquatesAll}
-use Rattle.unify.specs.Triangular.{Pairs, Linked, HasParts, AreLinked, is_pending, is_equal, done, next, Steps}
-use Rattle.unify.specs.TriangularTable.{stored}
-use Rattle.unify.specs.TriangularLoop.{IsPairOf, PendingIn, Compares}
+use Rattle.unify.specs.Triangular.{Pairs, Linked, HasParts, AreLinked, is_pending, is_compared, is_equal, looked_up}
+use Rattle.unify.specs.Triangular.{by_parts, are_one, in_term, in_node, in_binder, done, next, Steps}
+use Rattle.unify.specs.Bindings.{stored}
+use Rattle.unify.specs.Comparison.{IsPairOf, NoPairs, PendingIn, Compares, types_pair}
 use Rattle.unify.specs.declared.pairs.Pair.{Pair}
 use Rattle.unify.proofs.SubstitutionLaws.{first_tree}
 use Rattle.unify.proofs.TriangularForms.{AreChildren, parts_linked}
@@ -34,13 +38,13 @@ abbrev pub pair_of : Child → Child → Pair
 pair_of c d = record { left = c; right = d }
 
 module _ (terms : Terms) where
-  pushed_kept : (ps : List Pair) (p : Pair) (t u : Tree Depth) → PendingIn terms ps t u
+  pub pushed_kept : (ps : List Pair) (p : Pair) (t u : Tree Depth) → PendingIn terms ps t u
       → PendingIn terms (ps ++ p ∷ []) t u
   pushed_kept [] p t u h = absurd h
   pushed_kept (q ∷ ps) p t u (inl h) = inl h
   pushed_kept (q ∷ ps) p t u (inr h) = inr (pushed_kept ps p t u h)
 
-  pushed_own : (ps : List Pair) (p : Pair) (t u : Tree Depth) → IsPairOf terms p t u
+  pub pushed_own : (ps : List Pair) (p : Pair) (t u : Tree Depth) → IsPairOf terms p t u
       → PendingIn terms (ps ++ p ∷ []) t u
   pushed_own [] p t u h = inl h
   pushed_own (q ∷ ps) p t u h = inr (pushed_own ps p t u h)
@@ -69,6 +73,28 @@ module _ (terms : Terms) where
   children_linked entries P C child.Absent d e pending = absurd (cc)
   children_linked entries P C c child.Absent e pending = absurd (cc)
   children_linked entries P C c d e pending = next (is_pending (pending _ _ (refl, refl))) done
+
+  -- two items of lists whose pair is pending are linked
+  item_linked : (entries : Substitution) (P C : Pairs) (s s' : TermTable) (c d : Child) → IsItem s (child_sort c)
+      → IsItem s' (child_sort d) → ((t u : Tree Depth) → IsPairOf terms (pair_of c d) t u → P t u)
+      → AreChildren entries P C (meaning terms.rows) c d
+  unfolding fill
+  item_linked entries P C s s' child.Absent d own own' pending = absurd own
+  item_linked entries P C s s' c child.Absent own own' pending = absurd own'
+  item_linked entries P C s s' c d own own' pending = next (is_pending (pending _ _ (refl, refl))) done
+
+  item_at : (s : TermTable) (cs : List Child) (i : ℕ) (c : Child) → slice_get cs i ≡ Some c
+      → All (λ x. IsItem s (child_sort x)) cs → IsItem s (child_sort c)
+  item_at s [] i c at all = absurd (none-some c at)
+  item_at s (x ∷ cs) zero c at all = subst (λ y. IsItem s (child_sort y)) (same_Some x c at) (all 0 x (omega arith))
+  item_at s (x ∷ cs) (suc i) c at all = item_at s cs i c at (λ k d less. all (suc k) d (omega (arith, less)))
+
+  pub items_pending : (entries : Substitution) (P C : Pairs) (s s' : TermTable) (cs ds : List Child) (i : ℕ) (c d : Child)
+      → slice_get cs i ≡ Some c → slice_get ds i ≡ Some d → All (λ x. IsItem s (child_sort x)) cs
+      → All (λ x. IsItem s' (child_sort x)) ds → ((t u : Tree Depth) → IsPairOf terms (pair_of c d) t u → P t u)
+      → AreChildren entries P C (meaning terms.rows) c d
+  items_pending entries P C s s' cs ds i c d at at' all all' pending =
+      item_linked entries P C s s' c d (item_at s cs i c at all) (item_at s' ds i d at' all') pending
 
   -- once the pairs of their parts are pushed, two terms have linked parts
   pub parts_pushed : (entries : Substitution) (C : Pairs) (ps : List Pair) (l r : AnyHandle) (k other made : Kind)
@@ -151,10 +177,6 @@ module _ (terms : Terms) (ys zs : List (Option Ty)) (rest ps : List Pair) (p : P
         (PendingIn terms ps) C' round_steps before.link;
   }
 
--- the pair of two types
-abbrev pub types_pair : Ty → Ty → Pair
-types_pair left right = pair_of (child_in terms_of.Types left) (child_in terms_of.Types right)
-
 -- at the start the two types are the one pending pair
 pub loop_begins : (terms : Terms) (xs : List (Option Ty)) (left right : Ty) → IsOwned table_shape terms xs
     → Compares terms xs left right xs (types_pair left right ∷ []) (λ t u. ⊥)
@@ -167,3 +189,23 @@ loop_begins terms xs left right owned = record {
   rests = rests_first (stored terms xs) (PendingIn terms (types_pair left right ∷ []));
   link = is_pending (inl (refl, refl));
 }
+
+module _ (entries : Substitution) (P C : Pairs) where
+  mutual
+    linked_more : {t u : Tree Depth} → Linked entries P NoPairs t u → Linked entries P C t u
+    linked_more (is_pending p) = is_pending p
+    linked_more (is_compared none) = absurd none
+    linked_more (is_equal e) = is_equal e
+    linked_more (looked_up a b left right link) = looked_up a b left right (linked_more link)
+    linked_more (by_parts h) = by_parts (parts_more h)
+
+    -- parts that are linked by pending pairs alone are linked
+    pub parts_more : {t u : Tree Depth} → HasParts entries P NoPairs t u → HasParts entries P C t u
+    parts_more are_one = are_one
+    parts_more (in_term h) = in_term (all_more h)
+    parts_more (in_node h) = in_node (all_more h)
+    parts_more (in_binder h) = in_binder (linked_more h)
+
+    all_more : {ts us : Forest Depth} → AreLinked entries P NoPairs ts us → AreLinked entries P C ts us
+    all_more done = done
+    all_more (next h hs) = next (linked_more h) (all_more hs)

@@ -1,11 +1,11 @@
 pub mod Bindings
+pub mod Comparison
 pub mod Faults
-pub mod Ground
+pub mod Memo
 pub mod Pairs
 pub mod Resolver
 pub mod Search
 pub mod Substitution
 pub mod Triangular
-pub mod TriangularLoop
-pub mod TriangularTable
 pub mod Undo
+pub mod Variables

@@ -12,8 +12,8 @@ use Rattle.tt_kinds.specs.Handle.{Ty}
 use Rattle.tt_interner.specs.Rows.{meaning}
 use Rattle.tt_interner.specs.Stored.{Terms}
 use Rattle.tt_fold.specs.Steps.{tree_in}
-use Rattle.unify.specs.Substitution.{Assignment, IsOwn, Solves, assign, assign_all}
-use Rattle.unify.specs.Bindings.{substitution}
+use Rattle.unify.specs.Substitution.{Assignment, GivesClosed, IsOwn, Solves, assign, assign_all}
+use Rattle.unify.specs.Bindings.{stored}
 use Rattle.unify.specs.declared.pairs.Pair.{Pair}
 
 -- the handles in a pair
@@ -45,7 +45,7 @@ EquatesAll ρ terms (p ∷ ps) = Equates ρ terms p × EquatesAll ρ terms ps
 
 -- the assignment solves the bindings, and makes the children of each pair equal
 pub record IsSolution (ρ : Assignment) (terms : Terms) (entries : List (Option Ty)) (pairs : List Pair) : Type 0 where
-  pub solves : Solves ρ (substitution terms entries)
+  pub solves : Solves ρ (stored terms entries)
   pub equates : EquatesAll ρ terms pairs
 
 -- whatever solves the earlier bindings and pairs, and meets the condition, solves the later bindings and pairs
@@ -62,3 +62,8 @@ pub record HasNoSolution (Meets : Assignment → Type 0) (terms : Terms) (entrie
 abbrev pub HasNoOwnSolution : (Assignment → Type 0) → Terms → List (Option Ty) → List Pair → Type 0
 HasNoOwnSolution Meets terms entries pairs =
     HasNoSolution (λ ρ. IsOwn (length entries) ρ × Meets ρ) terms entries pairs
+
+-- no assignment of trees without variables of a binder around them solves the bindings and pairs and meets the condition
+abbrev pub HasNoClosedSolution : (Assignment → Type 0) → Terms → List (Option Ty) → List Pair → Type 0
+HasNoClosedSolution Meets terms entries pairs =
+    HasNoSolution (λ ρ. GivesClosed ρ × Meets ρ) terms entries pairs

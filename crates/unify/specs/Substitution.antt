@@ -2,6 +2,7 @@
 use Rattle.std.specs.Prelude.{◌≡◌, ◌≤◌, ℕ, Option, Some, None, ⊤, IsTrue}
 use Rattle.tt_kinds.specs.Label.{Name, Label, type_label, infer_type, type_sort, is_type}
 use Rattle.tt_kinds.specs.declared.ty_kind.InferTy.TheVariants.{TyVar}
+use Rattle.tt_kinds.specs.Reading.{outer_binder}
 use Rattle.tt_kinds.specs.Tree.{Depth, Tree, param, bound, region, term, node, binder, Forest, none, also}
 
 -- what each variable is bound to, by the variable's number
@@ -138,6 +139,10 @@ pub record IsOwn (n : ℕ) (ρ : Assignment) : Type 0 where
   pub types : GivesTypes ρ
   pub leaves : (v : ℕ) → n ≤ v → ρ v ≡ variable_tree v
 
+-- the assignment gives each variable a tree without a variable of a binder around it
+abbrev pub GivesClosed : Assignment → Type 0
+GivesClosed ρ = (v : ℕ) → outer_binder (ρ v) ≡ 0
+
 -- no assignment to the first n variables alone that solves the bindings makes the two trees equal
 abbrev pub HasNoOwnUnifier : ℕ → Substitution → Tree Depth → Tree Depth → Type 0
 HasNoOwnUnifier n σ t u = (ρ : Assignment) → IsOwn n ρ → Solves ρ σ → assign ρ t ≡ assign ρ u → ⊥
@@ -145,3 +150,7 @@ HasNoOwnUnifier n σ t u = (ρ : Assignment) → IsOwn n ρ → Solves ρ σ →
 -- the bindings as an assignment: a variable without a binding stays itself
 abbrev pub as_assignment : Substitution → Assignment
 as_assignment σ v = or_else (σ v) (variable_tree v)
+
+-- no assignment of trees without variables of a binder around them solves the bindings and makes the two trees equal
+abbrev pub HasNoClosedUnifier : Substitution → Tree Depth → Tree Depth → Type 0
+HasNoClosedUnifier σ t u = (ρ : Assignment) → GivesClosed ρ → Solves ρ σ → assign ρ t ≡ assign ρ u → ⊥

@@ -43,6 +43,20 @@ pub record Binds (entries : Substitution) (v : ℕ) (t : Tree Depth) (later : Su
   pub own : later v ≡ Some t
   pub others : (w : ℕ) → (w ≡ v → ⊥) → later w ≡ entries w
 
+-- the entry, if it is a variable itself
+abbrev pub link_of : Option ℕ → Tree Depth → Option (Tree Depth)
+link_of (Some w) t = Some t
+link_of None t = None
+
+-- the same for an entry that may have no tree
+abbrev pub only_link : Option (Tree Depth) → Option (Tree Depth)
+only_link (Some t) = link_of (variable_in t) t
+only_link None = None
+
+-- the entries that are variables themselves
+abbrev pub links : Substitution → Substitution
+links entries v = only_link (entries v)
+
 -- the variable is in the tree
 abbrev pub Holds : ℕ → Tree Depth → Type 0
 Holds u t = IsWithout u t → ⊥
@@ -59,6 +73,10 @@ StandsBelow order entries = (v w : ℕ) (t : Tree Depth) → entries v ≡ Some 
 -- no variable of a binder around the tree is in it
 abbrev pub IsClosed : Tree Depth → Type 0
 IsClosed t = outer_binder t ≡ 0
+
+-- each binding is so
+abbrev pub AreClosed : Substitution → Type 0
+AreClosed entries = (v : ℕ) (t : Tree Depth) → entries v ≡ Some t → IsClosed t
 
 abbrev mutual
   -- how many nodes a tree has

@@ -10,17 +10,15 @@ use type_terms::{Refusal, Ty, TyVid};
 pub enum Fault {
     /// The two types differ, whatever types the table's unbound variables are bound to.
     Mismatch,
-    /// The variable occurs in the type that it would be bound to: the type would have to contain itself.
+    /// The variable occurs in the type that it would be bound to, once the bound variables in the type are replaced:
+    /// the type would have to contain itself.
     Occurs(TyVid, Ty),
     /// The variable would be bound to a type that holds a bound variable of a binder around it. Outside of this binder
     /// the type would mean something else.
     Escapes(TyVid, Ty),
-    /// The bindings that were found don't make the two types equal. No input is known that gives this fault, but the
-    /// proof doesn't exclude it.
-    Unsolved,
     /// The library refused a call: memory is short ([`Refusal::Memory`]), or a table is full ([`Refusal::TableFull`]).
-    /// `TableFull` also means that no number is left for a new variable, or that a call would compare more than
-    /// `u32::MAX` pairs.
+    /// `TableFull` also means that no number is left for a new variable, or that a loop of the call would
+    /// take more than `u32::MAX` rounds.
     Refused(Refusal),
 }
 

@@ -5,14 +5,18 @@
 #![tactic(auto)]
 
 pub mod bindings;
+mod comparison;
 mod equality;
 pub mod fault;
-mod ground;
+mod memo;
 mod pairs;
 mod resolver;
+mod search;
+mod undo;
 mod unifier;
+mod variables;
 
-pub use bindings::Bindings;
+pub use bindings::{Bindings, Snapshot};
 pub use equality::equal_faults_are_same;
 pub use fault::Fault;
 pub use unifier::unify;

@@ -9,9 +9,12 @@ ghost use Rattle.tt_kinds.specs.TermTable.{has_items, term_table};
 ghost use Rattle.tt_interner.specs.Owned.{AreOwned};
 ghost use Rattle.tt_interner.specs.Rows.{size};
 ghost use Rattle.tt_fold.specs.Steps.{tree_in};
-ghost use Rattle.unify.specs.Faults.{IsMismatch, IsOccurs};
+ghost use Rattle.tt_kinds.specs.Tree.{Depth, Tree};
+ghost use Rattle.unify.specs.Comparison.{NoPairs, PendingIn};
+ghost use Rattle.unify.specs.Faults.{IsEscapes, IsMismatch, IsOccurs};
 ghost use Rattle.unify.specs.Pairs.{pair_shape, EquatesAll, IsNoList};
-ghost use Rattle.unify.specs.Substitution.{assign, Assignment, GivesTypes, LeavesRoot};
+ghost use Rattle.unify.specs.Substitution.{assign, Assignment, GivesTypes, LeavesRoot, Substitution};
+ghost use Rattle.unify.specs.Triangular.{HasParts};
 
 use crate::fault::Fault;
 use type_terms::{AnyHandle, Child, Interner, TermTable, Ty};
@@ -37,10 +40,19 @@ pub fn push_parts(
     requires right_kind { IsFalse (has_items right.table) }
     requires pairs { AreOwned pair_shape cx.now pairs.old.items }
     ensures owned { OnOk result (AreOwned pair_shape cx.now pairs.new.items) }
+    ensures others { OnOk result ((t u : Tree Depth) → PendingIn cx.now pairs.old.items t u
+        → PendingIn cx.now pairs.new.items t u) }
+    ensures parts { OnOk result ((entries : Substitution) → HasParts
+        entries
+        (PendingIn cx.now pairs.new.items)
+        NoPairs
+        (tree_in cx.now.rows (handle_shape left))
+        (tree_in cx.now.rows (handle_shape right))) }
     ensures general { OnOk result ((ρ : Assignment)
         → assign ρ (tree_in cx.now.rows (handle_shape left)) ≡ assign ρ (tree_in cx.now.rows (handle_shape right))
         → EquatesAll ρ cx.now pairs.old.items → EquatesAll ρ cx.now pairs.new.items) }
     ensures err { IfErr result (λ fault. IsOccurs fault → ⊥) }
+    ensures escapes { IfErr result (λ fault. IsEscapes fault → ⊥) }
     ensures mismatch { IfErr result (λ fault. IsMismatch fault → (ρ : Assignment) → GivesTypes ρ
         → LeavesRoot ρ (tree_in cx.now.rows (handle_shape left))
         → LeavesRoot ρ (tree_in cx.now.rows (handle_shape right))
@@ -79,10 +91,19 @@ pub fn push_items(
     requires right_items { IsTrue (has_items right.table) }
     requires pairs { AreOwned pair_shape cx.now pairs.old.items }
     ensures owned { OnOk result (AreOwned pair_shape cx.now pairs.new.items) }
+    ensures others { OnOk result ((t u : Tree Depth) → PendingIn cx.now pairs.old.items t u
+        → PendingIn cx.now pairs.new.items t u) }
+    ensures parts { OnOk result ((entries : Substitution) → HasParts
+        entries
+        (PendingIn cx.now pairs.new.items)
+        NoPairs
+        (tree_in cx.now.rows (handle_shape left))
+        (tree_in cx.now.rows (handle_shape right))) }
     ensures general { OnOk result ((ρ : Assignment)
         → assign ρ (tree_in cx.now.rows (handle_shape left)) ≡ assign ρ (tree_in cx.now.rows (handle_shape right))
         → EquatesAll ρ cx.now pairs.old.items → EquatesAll ρ cx.now pairs.new.items) }
     ensures err { IfErr result (λ fault. IsOccurs fault → ⊥) }
+    ensures escapes { IfErr result (λ fault. IsEscapes fault → ⊥) }
     ensures mismatch { IfErr result (λ fault. IsMismatch fault → (ρ : Assignment)
         → assign ρ (tree_in cx.now.rows (handle_shape left)) ≢ assign ρ (tree_in cx.now.rows (handle_shape right))) }
 {

@@ -13,7 +13,7 @@ pub enum Workload {
     /// has a variable to bind.
     Chain(u32),
     /// Level 0 is `i32`. Level n + 1 is `(level n, ?n)` on the left and `(level n, ?(n + 1))` on the right, so each
-    /// variable but the last one is bound to the next one.
+    /// variable becomes equal to the next one.
     Links(u32),
 }
 

@@ -1,11 +1,12 @@
 //! Types are made equal, and faults leave the bindings as they were.
 
 mod faults;
+mod snapshots;
 mod solved;
 
 ghost use Rattle.std.specs.Prelude.{IfErr, IfOk};
 ghost use Rattle.tt_interner.specs.Stored.{Extends};
-ghost use Rattle.unify.specs.Bindings.{IsTable};
+ghost use Rattle.unify.specs.Bindings.{IsTable, KeepsEarlier};
 ghost use Rattle.unify.specs.Faults.{IsMismatch};
 
 use std::alloc::Global;
@@ -60,6 +61,7 @@ fn unified(cx: &mut Interner, bindings: &mut Bindings, left: Ty, right: Ty) -> R
     requires { IsTable cx.old bindings.old }
     ensures extends { Extends cx.old cx.new }
     ensures table { IsTable cx.new bindings.new }
+    ensures earlier { KeepsEarlier bindings.old bindings.new }
 {
     if !left.is_owned(cx) || !right.is_owned(cx) {
         return Err(Fault::Refused(NOT_OWNED));
@@ -124,4 +126,11 @@ fn answer(outcome: Result<bool, Fault>) -> bool {
         Ok(answer) => answer,
         Err(_) => false,
     }
+}
+
+// Returns whether the two types can be made equal, and no room is left for what they resolve to.
+fn unify_alone(cx: &mut Interner, left: Ty, right: Ty) -> Result<bool, Fault> {
+    let mut bindings = table_of(cx, 2)?;
+    unified(cx, &mut bindings, left, right)?;
+    Ok(resolved(cx, &bindings, left) == Err(Refusal::TableFull))
 }

@@ -12,7 +12,7 @@ ghost use Rattle.tt_kinds.specs.Values.{fn_sig_shape};
 use crate::failure::Failure;
 use crate::infer::equality::{equate, fresh_variables, is_of};
 use crate::lookup::{at, part_of, type_at};
-use crate::mistake::{Mistake, wrong_count};
+use crate::mistake::{Item, Mistake, Origin, wrong_count};
 use crate::scope::{Scope, operand, place_of};
 use crate::types::{data_type_of, function_of};
 use checker_syntax::program::Span;
@@ -54,13 +54,14 @@ fn fresh_data_type(
     data_type_of(cx, id, variables.as_slice())
 }
 
-// Makes the types of the operands equal to the expected types, in order.
+// Makes the types of the operands equal to the expected types, in order. They are the item's arguments or fields.
 #[tactic(auto, using(crate::proofs::ClientLaws::growth_laws))]
 fn equate_each(
     cx: &mut Interner,
     scope: Scope<'_>,
     bindings: &mut Bindings,
     number: usize,
+    owner: Item,
     expected: &[Ty],
     operands: &[usize],
 ) -> Result<(), Failure>
@@ -74,7 +75,18 @@ fn equate_each(
         let value = operands[index];
         let found = operand(cx, scope, number, value)?;
         let expected = type_at(cx, expected, index)?;
-        equate(cx, bindings, place_of(scope, value)?, expected, found)?;
+        let origin = Origin::Operand {
+            owner,
+            number: index,
+        };
+        equate(
+            cx,
+            bindings,
+            place_of(scope, value)?,
+            origin,
+            expected,
+            found,
+        )?;
     }
     Ok(())
 }
@@ -108,7 +120,16 @@ pub fn infer_call(
     let id = at(scope.declared.functions.as_slice(), function)?;
     let item = fresh_function(cx, bindings, id, callee.params.len())?;
     let (inputs, output) = signature(cx, item)?;
-    equate_each(cx, scope, bindings, number, inputs.as_slice(), arguments)?;
+    let owner = Item::Function(function);
+    equate_each(
+        cx,
+        scope,
+        bindings,
+        number,
+        owner,
+        inputs.as_slice(),
+        arguments,
+    )?;
     is_of(cx, scope, bindings, number, output)?;
     Ok(item)
 }
@@ -172,7 +193,8 @@ pub fn infer_data(
     if values.len() != types.len() {
         return Err(Failure::Malformed);
     }
-    equate_each(cx, scope, bindings, number, types.as_slice(), values)?;
+    let owner = Item::Data(data);
+    equate_each(cx, scope, bindings, number, owner, types.as_slice(), values)?;
     is_of(cx, scope, bindings, number, ty)
 }
 

@@ -6,21 +6,22 @@ ghost use Rattle.tt_interner.specs.Stored.{Extends};
 ghost use Rattle.unify.specs.Bindings.{IsTable};
 
 use crate::failure::Failure;
+use crate::mistake::Pair;
 use type_terms::prelude::*;
 use unify::{Bindings, Fault, unify};
 
 // The greatest number of types around a difference that are looked into.
 const MOST_LEVELS: usize = 1000;
 
-/// Makes the parts of two types equal, in order, up to the first ones that can't be. So a message shows the types as far
-/// as the parts in front of the difference determine them.
+/// Makes the parts of two types equal, in order, up to the first ones that can't be, and returns these. So a message
+/// shows the types as far as the parts in front of the difference determine them.
 #[tactic(auto, using(crate::proofs::ClientLaws::growth_laws))]
 pub fn unify_common(
     cx: &mut Interner,
     bindings: &mut Bindings,
     left: Ty,
     right: Ty,
-) -> Result<(), Failure>
+) -> Result<Pair, Failure>
     requires { IsTable cx.old bindings.old }
     ensures extends { Extends cx.old cx.new }
     ensures table { IsTable cx.new bindings.new }
@@ -34,10 +35,13 @@ pub fn unify_common(
                 left = pair.0;
                 right = pair.1;
             }
-            None => return Ok(()),
+            None => break,
         }
     }
-    Ok(())
+    Ok(Pair {
+        expected: left,
+        found: right,
+    })
 }
 
 // Makes the two types of each pair equal, in order. Returns the first pair whose types can't be.

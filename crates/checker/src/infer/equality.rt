@@ -9,7 +9,7 @@ ghost use Rattle.checker.specs.Scope.{IsScope};
 
 use crate::failure::Failure;
 use crate::infer::common::unify_common;
-use crate::mistake::{Mistake, mismatch};
+use crate::mistake::{Mistake, Origin, mismatch};
 use crate::scope::{Scope, place_of, type_of};
 use checker_syntax::program::Place;
 use type_terms::prelude::*;
@@ -49,12 +49,13 @@ pub fn fresh_variables(
     Ok(variables)
 }
 
-/// Makes the type that was found at a place equal to the type that is expected there.
+/// Makes the type that was found at a place equal to the type that is expected there, which comes from the origin.
 #[tactic(auto, using(crate::proofs::ClientLaws::growth_laws))]
 pub fn equate(
     cx: &mut Interner,
     bindings: &mut Bindings,
     place: Place,
+    origin: Origin,
     expected: Ty,
     found: Ty,
 ) -> Result<(), Failure>
@@ -67,11 +68,11 @@ pub fn equate(
     match unify(cx, bindings, expected, found) {
         Ok(()) => Ok(()),
         Err(Fault::Refused(refusal)) => Err(Failure::Refused(refusal)),
-        // No type of the language has a binder, and no input is known that gives `Unsolved`.
-        Err(Fault::Escapes(_, _)) | Err(Fault::Unsolved) => Err(Failure::Unverified),
+        // No type of the language has a binder.
+        Err(Fault::Escapes(_, _)) => Err(Failure::Unverified),
         Err(fault) => {
-            unify_common(cx, bindings, expected, found)?;
-            let cause = mismatch(cx, bindings, expected, found, fault)?;
+            let parts = unify_common(cx, bindings, expected, found)?;
+            let cause = mismatch(cx, bindings, expected, found, parts, origin, fault)?;
             Err(Failure::Wrong(Mistake { place, cause }))
         }
     }
@@ -93,5 +94,6 @@ pub fn is_of(
     ensures table { IsTable cx.new bindings.new }
 {
     let expected = type_of(cx, scope, number)?;
-    equate(cx, bindings, place_of(scope, number)?, expected, ty)
+    let place = place_of(scope, number)?;
+    equate(cx, bindings, place, Origin::Form, expected, ty)
 }

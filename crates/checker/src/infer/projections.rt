@@ -13,7 +13,7 @@ use crate::infer::calls::{field_type, fields_of};
 use crate::infer::equality::is_of;
 use crate::lookup::at;
 use crate::mistake::{Mistake, Wanted, no_field, no_item, unknown_type};
-use crate::scope::{Scope, operand, place_of};
+use crate::scope::{Scope, let_of, operand, place_of};
 use crate::types::{item_type, without_references};
 use type_terms::prelude::*;
 use unify::Bindings;
@@ -83,7 +83,8 @@ pub fn infer_field(
     let place = place_of(scope, number)?;
     if is_unknown(cx, whole) {
         let place = place_of(scope, value)?;
-        let cause = unknown_type(cx, bindings, whole, Wanted::Type)?;
+        let binding = let_of(scope, value);
+        let cause = unknown_type(cx, bindings, whole, Wanted::Type, binding)?;
         return Err(Failure::Wrong(Mistake { place, cause }));
     }
     let symbol = symbol_of(cx, scope.program, name)?;
@@ -115,7 +116,8 @@ pub fn infer_item(
     let place = place_of(scope, number)?;
     if is_unknown(cx, whole) {
         let place = place_of(scope, value)?;
-        let cause = unknown_type(cx, bindings, whole, Wanted::Type)?;
+        let binding = let_of(scope, value);
+        let cause = unknown_type(cx, bindings, whole, Wanted::Type, binding)?;
         return Err(Failure::Wrong(Mistake { place, cause }));
     }
     match item_type(cx, whole, item) {

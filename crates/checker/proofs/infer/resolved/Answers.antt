@@ -20,3 +20,9 @@ returns-in_err-place-clause-extends c = Extends-trans c.loop-number.invariant.ex
 
 pub returns-in_err-cause-clause-extends : goal.returns-in_err-cause-clause-extends
 returns-in_err-cause-clause-extends c = Extends-trans c.loop-number.invariant.extends (Extends-trans c.resolve.ensures.extends c.unknown_type.ensures.extends)
+
+pub returns-in_err-ty-2-clause-extends : goal.returns-in_err-ty-2-clause-extends
+returns-in_err-ty-2-clause-extends c = Extends-trans c.loop-number.invariant.extends c.resolve.ensures.extends
+
+pub returns-then-has_infer-clause-extends : goal.returns-then-has_infer-clause-extends
+returns-then-has_infer-clause-extends c = Extends-trans c.loop-number.invariant.extends (Extends-trans c.resolve.ensures.extends c.unknown_type.ensures.extends)

@@ -1,6 +1,6 @@
-use Rattle.std.proofs.Common.{sym, subst}
+use Rattle.std.proofs.Common.{◌++◌, ◌∷◌, [], ap, sym, subst}
 use Rattle.tt_kinds.specs.Shape.{AreParts}
-use Rattle.tt_kinds.specs.Kinds.{child_shapes, kind_form, kind_sort, parts_shapes}
+use Rattle.tt_kinds.specs.Kinds.{child_shapes, handle_shape, kind_form, kind_sort, parts_shapes}
 use Rattle.tt_interner.specs.Rows.{size}
 use Rattle.tt_interner.proofs.InfoLaws.{AreParts-append, form_has_parts}
 use Rattle.unify.proofs.PairLaws.{pairs_pushed}
@@ -13,6 +13,10 @@ use Rattle.unify.proofs.PairLaws.{equates_pushed}
 use Rattle.unify.proofs.SolutionLaws.{stored_tree}
 use Rattle.unify.proofs.pairs.push_parts.Goals.{then-not-are_like-via-then-not-are_like}
 use Rattle.unify.proofs.pairs.push_parts.Goals.{then-not-are_like-via-else-not-are_like+then-ne}
+use Rattle.tt_fold.specs.Steps.{tree_in}
+use Rattle.unify.specs.Comparison.{NoPairs, PendingIn}
+use Rattle.unify.specs.Triangular.{HasParts}
+use Rattle.unify.proofs.TriangularLoop.{pair_of, parts_pushed, pushed_kept}
 use Rattle.unify.proofs.pairs.push_parts.Goals as goal
 
 pub returns-clause-owned : goal.returns-clause-owned
@@ -47,3 +51,21 @@ returns-then-not-are_like-clause-mismatch c = λ is ρ types leaves leaves' same
       | then-not-are_like-via-else-not-are_like+then-ne w ↦
           other_kind w.with_parts.result c.node_kind-right.result (sym w.ne.ensures ∙ w.if-ne.true) (alike.1 w.with_parts.result w.with_parts.ensures.table w.with_parts.ensures.form)
     ]
+
+pub returns-clause-others : goal.returns-clause-others
+returns-clause-others c = λ t u at.
+    let terms = c.args.cx.now in
+    let all = c.in_ok-push-2.ensures.items ∙ ap (λ ps. ps ++ pair_of c.parts-old.result.first c.parts-new.result.first ∷ []) c.in_ok-push.ensures.items in
+    subst (λ ps. PendingIn terms ps t u) (sym all)
+    (pushed_kept terms (c.args.pairs.now.items ++ pair_of c.parts-old.result.second c.parts-new.result.second ∷ []) (pair_of c.parts-old.result.first c.parts-new.result.first) t u
+    (pushed_kept terms c.args.pairs.now.items (pair_of c.parts-old.result.second c.parts-new.result.second) t u at))
+
+pub returns-clause-parts : goal.returns-clause-parts
+returns-clause-parts c = λ entries.
+    let terms = c.args.cx.now in
+    let m = meaning terms.rows in
+    let all = c.in_ok-push-2.ensures.items ∙ ap (λ ps. ps ++ pair_of c.parts-old.result.first c.parts-new.result.first ∷ []) c.in_ok-push.ensures.items in
+    subst (λ ps. HasParts entries (PendingIn terms ps) NoPairs (tree_in terms.rows (handle_shape c.args.left)) (tree_in terms.rows (handle_shape c.args.right))) (sym all)
+    (parts_pushed terms entries NoPairs c.args.pairs.now.items c.args.left c.args.right c.node_kind-left.result c.node_kind-right.result c.with_parts.result c.parts-old.result c.parts-new.result
+    c.parts-old.ensures (c.are_like.ensures.0 c.if-not-are_like.false) c.with_parts.ensures.table c.with_parts.ensures.form (sym c.ne.ensures ∙ c.if-ne.false)
+    (stored_tree m c.args.left _ c.node_kind-left.ensures.means) (stored_tree m c.args.right _ c.node_kind-right.ensures.means))

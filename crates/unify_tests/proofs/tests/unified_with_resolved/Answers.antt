@@ -1,11 +1,11 @@
-use Rattle.std.proofs.Common.{List, Option, Result, Ok, Err, IfErr, sym, ap, ◌≡◌, ◌∙◌}
+use Rattle.std.proofs.Common.{Result, Ok, Err, IfErr, sym, ap, ◌≡◌, ◌∙◌}
 use Rattle.tt_kinds.specs.Kinds.{ty_shape}
 use Rattle.tt_kinds.specs.Handle.{Ty}
 use Rattle.tt_interner.specs.Owned.{IsOwned}
 use Rattle.tt_interner.specs.Stored.{Terms, Extends}
 use Rattle.tt_interner.proofs.Growth.{fill-grows}
 use Rattle.tt_fold.specs.Steps.{tree_in}
-use Rattle.unify.specs.Bindings.{IsTable, substitution}
+use Rattle.unify.specs.Bindings.{IsTable, Table, substitution}
 use Rattle.unify.specs.Faults.{IsMismatch}
 use Rattle.unify.specs.Substitution.{Substitution, apply}
 use Rattle.unify.specs.declared.fault.Fault.{Fault}
@@ -18,7 +18,7 @@ never A (Ok x) false promised = tt
 never A (Err f) false promised = λ is. false (promised is)
 
 -- a type and what it resolves to resolve to one type
-same : (old new : Terms) (entries : List (Option Ty)) (ty resolved : Ty) → Extends old new → IsOwned ty_shape old ty → IsTable new entries
+same : (old new : Terms) (entries : Table) (ty resolved : Ty) → Extends old new → IsOwned ty_shape old ty → IsTable new entries
     → substitution new entries ≡ substitution old entries
     → tree_in new.rows (ty_shape resolved) ≡ apply (substitution old entries) (tree_in old.rows (ty_shape ty))
     → apply (substitution new entries) (tree_in new.rows (ty_shape ty)) ≡ apply (substitution new entries) (tree_in new.rows (ty_shape resolved))

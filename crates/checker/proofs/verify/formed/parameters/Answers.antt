@@ -40,3 +40,6 @@ loop-index-preserved c =
 
 pub returns-in_err-ty-clause-extends : goal.returns-in_err-ty-clause-extends
 returns-in_err-ty-clause-extends c = Extends-trans c.loop-index.invariant.extends c.parameter.ensures.extends
+
+pub returns-in_err-push-clause-extends : goal.returns-in_err-push-clause-extends
+returns-in_err-push-clause-extends c = Extends-trans c.loop-index.invariant.extends c.parameter.ensures.extends

@@ -1,0 +1,49 @@
+use Rattle.std.proofs.Common.{◌≡◌, ℕ, Contains, IfOk, subst, sym}
+use Rattle.tt_flags.specs.TypeFlags.{has_ty_infer}
+use Rattle.tt_kinds.specs.Kinds.{ty_shape}
+use Rattle.tt_kinds.specs.Scan.{scan}
+use Rattle.tt_fold.specs.Steps.{tree_in}
+use Rattle.tt_fold.proofs.KeptLaws.{misses}
+use Rattle.unify.specs.Bindings.{stored, values}
+use Rattle.unify.specs.Memo.{AreSettled, Settles}
+use Rattle.unify.specs.Search.{IsOrder}
+use Rattle.unify.specs.Triangular.{IsChild}
+use Rattle.unify.proofs.FlagLaws.{unflagged_without}
+use Rattle.unify.proofs.LinkLaws.{never_reached}
+use Rattle.unify.proofs.MemoLaws.{resolves}
+use Rattle.unify.proofs.SubstitutionLaws.{resolved_stays}
+use Rattle.unify.proofs.memo.resolved.Goals as goal
+
+pub returns-then-not-has_infer_types-clause-plain : goal.returns-then-not-has_infer_types-clause-plain
+returns-then-not-has_infer_types-clause-plain c =
+    let terms = c.args.cx.now in
+    let t = tree_in terms.rows (ty_shape c.args.ty) in
+    let none = misses has_ty_infer (scan t) c.has_infer_types.result c.has_infer_types.ensures
+    c.if-not-has_infer_types.true in
+    sym (resolved_stays (values terms c.args.entries.now) t (λ v r is. unflagged_without t v none))
+
+pub refusal_of-requires : goal.refusal_of-requires
+refusal_of-requires c = λ v is.
+    never_reached (stored c.args.cx.now c.args.entries.now) c.requires.table.acyclic v (c.in-Err.ensures.cycle v is)
+
+pub settled-requires-clause-order : goal.settled-requires-clause-order
+settled-requires-clause-order c =
+    subst (IsOrder (IsChild (stored c.args.cx.now c.args.entries.now))) (sym c.as_slice-2.ensures.value)
+    c.in-Ok.ensures.order
+
+pub returns-clause-plain : goal.returns-clause-plain
+returns-clause-plain c =
+    let terms = c.args.cx.now in
+    let mid = c.settled.new.cx in
+    let xs = c.args.entries.now in
+    let memo = c.as_slice-3.result.now in
+    let order = c.as_slice-2.result.now in
+    let settles = subst (Settles mid xs) (sym c.as_slice-3.ensures.value) c.in_ok-memo.ensures.settles in
+    let all = subst (λ m. AreSettled mid xs m order) (sym c.as_slice-3.ensures.value) c.in_ok-memo.ensures.all in
+    let there : ((v : ℕ) → Contains c.in_ok-starts.starts.items v → Contains order v) =
+    λ v at. subst (λ vs. Contains vs v) (sym c.as_slice-2.ensures.value)
+    (c.in-Ok.ensures.starts v (subst (λ vs. Contains vs v) (sym c.as_slice.ensures.value) at)) in
+    let same = resolves terms mid xs memo c.in_ok-starts.starts.items order c.args.ty c.settled.ensures.extends
+    c.requires.table c.requires.ty c.in_ok-starts.ensures.all there settles all in
+    subst (λ t. IfOk c.replaced.result (λ new. tree_in c.replaced.new.cx.rows (ty_shape new) ≡ t)) same
+    c.replaced.ensures.plain

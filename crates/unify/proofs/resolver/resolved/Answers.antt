@@ -1,5 +1,0 @@
-use Rattle.unify.proofs.ApplyLaws.{outcome_applies}
-use Rattle.unify.proofs.resolver.resolved.Goals as goal
-
-pub returns-clause-plain : goal.returns-clause-plain
-returns-clause-plain c = outcome_applies _ _ _ c.replace_types_once.result c.replace_types_once.ensures.plain
