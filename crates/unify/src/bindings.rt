@@ -15,7 +15,9 @@ use crate::resolver::{entry_at, shallow_resolved};
 use crate::undo::{Table, undo_from};
 use std::alloc::Global;
 use std::marker::Model;
-use type_terms::{Idx, InferTy, Interner, Refusal, Ty, TyKind, TyVid};
+use tt_index::{Idx, Refusal, TyVid};
+use tt_interner::Interner;
+use tt_kinds::{InferTy, Ty, TyKind};
 
 // The greatest number that a variable may have.
 const GREATEST: usize = 4_294_967_040;

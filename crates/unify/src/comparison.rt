@@ -19,7 +19,10 @@ use crate::pairs::{Pair, as_list, as_stored, as_types, push_items, push_parts};
 use crate::resolver::{shallow_resolved, unbound_variable};
 use crate::undo::Table;
 use indexmap::IndexSet;
-use type_terms::{Idx, Interner, Refusal, Ty, TyVid, TypeVisitableExt};
+use tt_index::{Idx, Refusal, TyVid};
+use tt_interner::Interner;
+use tt_kinds::Ty;
+use tt_visit::TypeVisitableExt;
 
 // The greatest number of pairs that a call compares.
 const MOST_PAIRS: u32 = u32::MAX;

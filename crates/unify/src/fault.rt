@@ -3,7 +3,8 @@
 ghost use Rattle.std.specs.Prelude.{◌≡◌};
 
 use std::alloc::{AllocError, AllocFailed};
-use type_terms::{Refusal, Ty, TyVid};
+use tt_index::{Refusal, TyVid};
+use tt_kinds::Ty;
 
 /// Why a call of the unifier fails.
 #[derive(Clone, Copy, Debug, PartialEq, Eq, Drop)]

@@ -1,4 +1,4 @@
-//! First-order unification of types with inference variables, a client of `type_terms` with its proof.
+//! First-order unification of types with inference variables, a client of `tt_fold` with its proof.
 //!
 //! A [`Bindings`] table says what each inference variable is bound to. [`unify`] makes two types equal by binding
 //! variables, and [`Bindings::resolve`] replaces the bound variables of a type.

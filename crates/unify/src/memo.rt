@@ -15,7 +15,10 @@ ghost use Rattle.unify.specs.declared.search.Failure.TheVariants.{Cycle};
 use crate::resolver::{entry_at, replaced};
 use crate::search::{Failure, reached};
 use crate::variables::variables_in;
-use type_terms::{Idx, Interner, Refusal, Ty, TyVid, TypeVisitableExt};
+use tt_index::{Idx, Refusal, TyVid};
+use tt_interner::Interner;
+use tt_kinds::Ty;
+use tt_visit::TypeVisitableExt;
 
 // Puts the variable's binding into the memo, with all bound variables replaced, if the variable has a binding. The memo
 // has those of the variables in it.

@@ -17,7 +17,8 @@ ghost use Rattle.unify.specs.Substitution.{assign, Assignment, GivesTypes, Leave
 ghost use Rattle.unify.specs.Triangular.{HasParts};
 
 use crate::fault::Fault;
-use type_terms::{AnyHandle, Child, Interner, TermTable, Ty};
+use tt_interner::Interner;
+use tt_kinds::{AnyHandle, Child, TermTable, Ty};
 
 /// Two children of terms that are to be made equal.
 #[derive(Clone, Copy)]

@@ -12,10 +12,11 @@ ghost use Rattle.unify.specs.Triangular.{links, IsAcyclic};
 ghost use Rattle.unify.specs.Bindings.{stored, table_shape};
 ghost use Rattle.unify.specs.Resolver.{binding, kind_variable, Resolves};
 
-use type_terms::{
-    Idx, InferTy, InternedKind, Interner, Refusal, Step, Ty, TyKind, TyVid, TypeReplacer,
-    TypeVisitableExt, replace_types_once,
-};
+use tt_fold::{Step, TypeReplacer, replace_types_once};
+use tt_index::{Idx, Refusal, TyVid};
+use tt_interner::{InternedKind, Interner};
+use tt_kinds::{InferTy, Ty, TyKind};
+use tt_visit::TypeVisitableExt;
 
 // Returns the inference variable that the kind is, if it is one.
 fn variable_in(kind: &TyKind) -> Option<TyVid>

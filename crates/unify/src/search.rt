@@ -12,7 +12,9 @@ use crate::resolver::entry_at;
 use crate::variables::variables_in;
 use indexmap::IndexSet;
 use std::alloc::{AllocError, AllocFailed};
-use type_terms::{Interner, Refusal, Ty, TyVid};
+use tt_index::{Refusal, TyVid};
+use tt_interner::Interner;
+use tt_kinds::Ty;
 
 /// Why a search fails.
 #[derive(Clone, Copy, Debug, PartialEq, Eq, Drop)]

@@ -3,7 +3,8 @@
 ghost use Rattle.std.specs.Prelude.{◌≡◌, ◌≤◌, length, take};
 ghost use Rattle.unify.specs.Undo.{entries_at};
 
-use type_terms::{Idx, Ty, TyVid};
+use tt_index::{Idx, TyVid};
+use tt_kinds::Ty;
 
 /// The entries of a table, and the variables that were bound.
 #[derive(Drop)]

@@ -18,7 +18,9 @@ use crate::fault::Fault;
 use crate::resolver::entry_at;
 use crate::search::{Failure, reached};
 use crate::undo::{Table, undo_from};
-use type_terms::{Interner, Ty, TyVid};
+use tt_index::TyVid;
+use tt_interner::Interner;
+use tt_kinds::Ty;
 
 // Returns the fault of a search that failed: its variable is bound to a type that holds it, once all bound variables in
 // the type are replaced.

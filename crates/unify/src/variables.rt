@@ -16,7 +16,10 @@ ghost use Rattle.unify.specs.Variables.{AreStored, ListsAll, PushesChild, Pushes
 
 use crate::resolver::variable_of;
 use indexmap::IndexSet;
-use type_terms::{AnyHandle, Child, Interner, Refusal, TermTable, Ty, TyVid, TypeVisitableExt};
+use tt_index::{Refusal, TyVid};
+use tt_interner::Interner;
+use tt_kinds::{AnyHandle, Child, TermTable, Ty};
+use tt_visit::TypeVisitableExt;
 
 // The greatest number of rows that a search looks at.
 const MOST_ROWS: u32 = u32::MAX;
