@@ -1,11 +1,12 @@
 -- Each step of a search in depth keeps what the search keeps.
 use Rattle.std.proofs.Common.{◌≡◌, refl, ℕ, List, [], ◌∷◌, ◌++◌, None, Contains, Bool, true, false}
 use Rattle.std.proofs.Common.{Result, Ok, Err, IfOk, Some}
-use Rattle.std.proofs.Common.{sym, subst, ap, map, ◌∙◌, ◌⊎◌, inl, inr, arith, append_assoc}
-use Rattle.std.proofs.lemmas.List.{map-append}
+use Rattle.std.proofs.Common.{sym, subst, ap, ◌∙◌, ◌⊎◌, inl, inr, arith, append_assoc}
+use Rattle.std.proofs.Common.{◌+◌, ◌<◌, length, get_or, take}
+use Rattle.std.proofs.lemmas.List.{map-append, take_more}
 use Rattle.std.specs.List.{list_any}
 use Rattle.std.proofs.lemmas.Bool.{cases_Bool, or_left, or_right, true≢false}
-use Rattle.std.proofs.lemmas.List.Elements.{Contains-append_left, Contains-push_cases}
+use Rattle.std.proofs.lemmas.List.Elements.{Contains-append_left, Contains-append_right, Contains-push_cases}
 use Rattle.indexmap.specs.IndexSet.{insert_key}
 use Rattle.indexmap.proofs.CallerLemmas.{Contains-insert_key, Contains-list_any}
 use Rattle.tt_kinds.specs.Tree.{Depth, Tree}
@@ -121,6 +122,19 @@ module _ (Child : ℕ → ℕ → Type 0) (starts : List ℕ) where
           | inr new ↦ rw new (order_pushed Child done v searches.order (kept_top Child done rest v searches.kept))
         ]
 
+    -- a variable without children is done at once
+    pub search_finishes : (v : ℕ) → ((u : ℕ) → Child v u → ⊥) → Searches Child starts (rest ++ Enter v ∷ []) entered done
+        → Searches Child starts rest entered (insert_key eq done v)
+    search_finishes v none searches =
+        search_pops (Enter v) (insert_key eq done v) searches order (insert_kept eq done v) (insert_cases eq done v)
+        (Contains-insert_key eq exact done v)
+      where
+        order : IsOrder Child (insert_key eq done v)
+        order = elim (cases_Bool (list_any (eq v) done)) [
+          | inl known ↦ rw known searches.order
+          | inr new ↦ rw new (order_pushed Child done v searches.order (λ u child. absurd (none u child)))
+        ]
+
     -- a variable that was entered and is not done is reached from itself
     pub search_cycle : ((a : ℕ) → eq a a ≡ true) → (v : ℕ)
         → Searches Child starts (rest ++ Enter v ∷ []) entered done
@@ -205,3 +219,22 @@ module _ (entries : Substitution) (v : ℕ) (t : Tree Depth) (at : entries v ≡
       → IfOk r (λ f. (u : ℕ) → Contains (items f) u → IsChild entries v u)
   only_children items (Ok f) holds = λ u there. (t, (at, holds u there))
   only_children items (Err e) holds = tt
+
+-- where no variable of a list has a child, the list is an order
+pub childless_order : (Child : ℕ → ℕ → Type 0) (xs : List ℕ) → ((v u : ℕ) → Contains xs v → Child v u → ⊥)
+    → IsOrder Child xs
+childless_order Child xs none before after v u is child =
+    absurd (none v u (subst (λ ys. Contains ys v) (sym is)
+    (Contains-append_right before (v ∷ after) v (0, omega arith, refl))) child)
+
+-- if none of the first variables has a child, and the next one has none, then none of one more has a child
+pub none_further : (Child : ℕ → ℕ → Type 0) (xs : List ℕ) (i x : ℕ) → i < length xs → get_or xs i x ≡ x
+    → ((v u : ℕ) → Contains (take i xs) v → Child v u → ⊥) → ((u : ℕ) → Child x u → ⊥)
+    → (v u : ℕ) → Contains (take (i + 1) xs) v → Child v u → ⊥
+none_further Child xs i x inside is before own v u at child =
+    let more : take (i + 1) xs ≡ take i xs ++ x ∷ [] =
+    take_more xs i x inside ∙ ap (λ y. take i xs ++ y ∷ []) is in
+    elim (Contains-push_cases (take i xs) x v (subst (λ vs. Contains vs v) more at)) [
+      | inl old ↦ before v u old child
+      | inr same ↦ own u (subst (λ w. Child w u) (sym same) child)
+    ]

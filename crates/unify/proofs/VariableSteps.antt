@@ -1,5 +1,6 @@
 -- A search for the variables in a type takes a handle, and looks at its parts.
-use Rattle.std.proofs.Common.{◌≡◌, ℕ, ◌<◌, ◌≤◌, suc, zero, Contains, ◌⊎◌, inl, inr, Option, None, Some, List, [], ◌∷◌, ◌++◌, Bool, true, false, length, get_or, refl, sym, subst, ap, ◌∙◌, arith}
+use Rattle.std.proofs.Common.{◌≡◌, ℕ, ◌<◌, suc, zero, Contains, ◌⊎◌, inl, inr, Option, None, Some, List, [], ◌∷◌, ◌++◌, Bool, true, length, get_or, refl, sym, subst, ap, ◌∙◌, arith}
+use Rattle.std.proofs.Common.{Result, Ok, Err, IfOk}
 use Rattle.tt_kinds.specs.Tree.{Depth, Tree, term, none, also}
 use Rattle.tt_kinds.specs.Kinds.{handle_shape, region_shape, ty_shape}
 use Rattle.tt_kinds.specs.declared.region_kind.RegionKind.{RegionKind}
@@ -60,6 +61,19 @@ only_item v w at = by at.0 at.1 at.2
     by : (k : ℕ) → k < length (v ∷ []) → get_or (v ∷ []) k w ≡ w → w ≡ v
     by zero within is = sym is
     by (suc k) within is = absurd (omega (arith, within))
+
+-- a list of the variable that a type is lists the variables in the type
+module _ {T E : Type 0} (items : T → List ℕ) (t : Tree Depth) (v : ℕ) (proper : IsProper t)
+    (is : variable_in t ≡ Some v) where
+  pub single_listed : (r : Result T E) → IfOk r (λ f. items f ≡ v ∷ []) → IfOk r (λ f. ListsAll (items f) t)
+  single_listed (Ok f) one =
+      subst (λ vs. ListsAll vs t) (sym one) (variable_listed (v ∷ []) t v proper is (0, omega arith, refl))
+  single_listed (Err e) one = tt
+
+  pub single_held : (r : Result T E) → IfOk r (λ f. items f ≡ v ∷ [])
+      → IfOk r (λ f. (w : ℕ) → Contains (items f) w → Holds w t)
+  single_held (Ok f) one = λ w at. variable_held t v w is (only_item v w (subst (λ vs. Contains vs w) one at))
+  single_held (Err e) one = tt
 
 -- only a type's row is a variable
 pub other_plain : (rows : List Row) → AreRows rows → (n : AnyHandle) → n.number < size rows (term_table n.table)

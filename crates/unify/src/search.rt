@@ -1,7 +1,7 @@
 //! A search in depth through bindings, which puts variables in an order in which the variables of each one's binding
 //! come first.
 
-ghost use Rattle.std.specs.Prelude.{◌≡◌, ◌++◌, ◌∷◌, [], ℕ, List, Contains, IfErr, IfOk, OnOk};
+ghost use Rattle.std.specs.Prelude.{◌≡◌, ◌++◌, ◌∷◌, [], ℕ, List, Contains, IfErr, IfOk, IsFalse, OnOk};
 ghost use Rattle.tt_interner.specs.Owned.{IsOwned};
 ghost use Rattle.unify.specs.Bindings.{stored, table_shape};
 ghost use Rattle.unify.specs.Search.{entering, steps_in, IsOrder, IsReached, Reaches, Searches};
@@ -15,6 +15,7 @@ use std::alloc::{AllocError, AllocFailed};
 use tt_index::{Refusal, TyVid};
 use tt_interner::Interner;
 use tt_kinds::Ty;
+use tt_visit::TypeVisitableExt;
 
 /// Why a search fails.
 #[derive(Clone, Copy, Debug, PartialEq, Eq, Drop)]
@@ -103,6 +104,9 @@ pub fn reached(
     ensures cycle { IfErr result
         (λ failure. (v : ℕ) → failure ≡ Cycle v → Reaches (IsChild (stored cx.now entries.now)) v v) }
 {
+    if !have_children(cx, entries, starts) {
+        return Ok(Vec::from_slice(cx.allocator(), starts)?);
+    }
     let mut search = Search {
         pending: Vec::new(cx.allocator()),
         entered: IndexSet::new(cx.allocator()),
@@ -113,35 +117,39 @@ pub fn reached(
         let Some(step) = search.pending.pop() else {
             return Ok(Vec::from_slice(cx.allocator(), search.done.as_slice())?);
         };
-        search = taken(cx, entries, search, step)?;
+        take_step(cx, entries, &mut search, step)?;
     }
     Err(Failure::Refused(Refusal::TableFull))
 }
 
 // Takes the step, which was the last of the pending ones.
-fn taken(
+fn take_step(
     cx: &Interner,
     entries: &[Option<Ty>],
-    search: Search,
+    search: &mut Search,
     step: Step,
-) -> Result<Search, Failure>
+) -> Result<(), Failure>
     requires { IsOwned table_shape cx.now entries.now }
-    ensures searches { IfOk result (λ later. (starts : List ℕ)
+    ensures searches { OnOk result ((starts : List ℕ)
         → Searches (IsChild (stored cx.now entries.now)) starts
-        (steps_in (search.pending.items ++ step ∷ [])) search.entered.keys search.done.keys
+        (steps_in (search.old.pending.items ++ step ∷ [])) search.old.entered.keys search.old.done.keys
         → Searches (IsChild (stored cx.now entries.now)) starts
-        (steps_in later.pending.items) later.entered.keys later.done.keys) }
+        (steps_in search.new.pending.items) search.new.entered.keys search.new.done.keys) }
     ensures cycle { IfErr result (λ failure. (starts : List ℕ) (v : ℕ)
         → Searches (IsChild (stored cx.now entries.now)) starts
-        (steps_in (search.pending.items ++ step ∷ [])) search.entered.keys search.done.keys
+        (steps_in (search.old.pending.items ++ step ∷ [])) search.old.entered.keys search.old.done.keys
         → failure ≡ Cycle v → Reaches (IsChild (stored cx.now entries.now)) v v) }
 {
-    let mut search = search;
     let variable = step.variable;
     match step.action {
         Action::Enter => {
             if search.done.contains(&variable) {
-                return Ok(search);
+                return Ok(());
+            }
+            let children = children_of(cx, entries, variable)?;
+            if children.is_empty() {
+                search.done.insert(variable)?;
+                return Ok(());
             }
             if !search.entered.insert(variable)? {
                 return Err(Failure::Cycle(variable));
@@ -150,13 +158,12 @@ fn taken(
                 action: Action::Leave,
                 variable,
             })?;
-            let children = children_of(cx, entries, variable)?;
             push_entering(&mut search.pending, &children)?;
-            Ok(search)
+            Ok(())
         }
         Action::Leave => {
             search.done.insert(variable)?;
-            Ok(search)
+            Ok(())
         }
     }
 }
@@ -190,4 +197,29 @@ fn children_of(
         Some(ty) => variables_in(cx, ty),
         None => Ok(Vec::new(cx.allocator())),
     }
+}
+
+// Returns whether one of the variables has children.
+fn have_children(cx: &Interner, entries: &[Option<Ty>], variables: &[TyVid]) -> bool
+    requires { IsOwned table_shape cx.now entries.now }
+    ensures { IsFalse result → (v u : ℕ) → Contains variables.now v
+        → IsChild (stored cx.now entries.now) v u → ⊥ }
+{
+    for &variable in variables {
+        if is_parent(cx, entries, variable) {
+            return true;
+        }
+    }
+    false
+}
+
+// Returns whether the variable is bound to a type with variables.
+fn is_parent(cx: &Interner, entries: &[Option<Ty>], variable: TyVid) -> bool
+    requires { IsOwned table_shape cx.now entries.now }
+    ensures { IsFalse result → (u : ℕ) → IsChild (stored cx.now entries.now) variable u → ⊥ }
+{
+    let Some(ty) = entry_at(entries, variable) else {
+        return false;
+    };
+    ty.has_infer_types(cx)
 }

@@ -46,6 +46,11 @@ pub fn variables_in(cx: &Interner, ty: Ty) -> Result<Vec<TyVid>, Refusal>
     if !ty.has_infer_types(cx) {
         return Ok(Vec::new(cx.allocator()));
     }
+    // A variable has no parts.
+    cx.are_rows();
+    if let Some(variable) = variable_of(cx, ty) {
+        return single(cx, variable);
+    }
     let mut search = Search {
         pending: Vec::new(cx.allocator()),
         seen: IndexSet::new(cx.allocator()),
@@ -56,43 +61,47 @@ pub fn variables_in(cx: &Interner, ty: Ty) -> Result<Vec<TyVid>, Refusal>
         let Some(handle) = search.pending.pop() else {
             return Ok(search.found);
         };
-        search = visited(cx, search, handle)?;
+        visit_row(cx, &mut search, handle)?;
     }
     Err(Refusal::TableFull)
 }
 
-// Looks at the row, which was taken from the pending ones.
-fn visited(cx: &Interner, search: Search, handle: AnyHandle) -> Result<Search, Refusal>
-    requires pending { AreStored cx.now search.pending.items }
-    requires own { handle.number < size cx.now.rows (term_table handle.table) }
-    ensures pending { IfOk result (λ later. AreStored cx.now later.pending.items) }
-    ensures visits { IfOk result (λ later. (root : Tree Depth)
-        → Visits cx.now root (search.pending.items ++ handle ∷ []) search.seen.keys search.found.items
-        → Visits cx.now root later.pending.items later.seen.keys later.found.items) }
+// Returns a list of this variable.
+fn single(cx: &Interner, variable: TyVid) -> Result<Vec<TyVid>, Refusal>
+    ensures { IfOk result (λ found. found.items ≡ variable ∷ []) }
 {
-    let mut search = search;
+    let mut found = Vec::new(cx.allocator());
+    found.push(variable)?;
+    Ok(found)
+}
+
+// Looks at the row, which was taken from the pending ones.
+fn visit_row(cx: &Interner, search: &mut Search, handle: AnyHandle) -> Result<(), Refusal>
+    requires pending { AreStored cx.now search.old.pending.items }
+    requires own { handle.number < size cx.now.rows (term_table handle.table) }
+    ensures pending { OnOk result (AreStored cx.now search.new.pending.items) }
+    ensures visits { OnOk result ((root : Tree Depth)
+        → Visits cx.now root (search.old.pending.items ++ handle ∷ []) search.old.seen.keys search.old.found.items
+        → Visits cx.now root search.new.pending.items search.new.seen.keys search.new.found.items) }
+{
     // A row's tree tells its table: so only a type is a variable.
     cx.are_rows();
     if handle.table != TermTable::Types {
-        push_parts(cx, &mut search.pending, handle)?;
-        return Ok(search);
+        return push_parts(cx, &mut search.pending, handle);
     }
     let ty: Ty = handle.typed();
     if !ty.has_infer_types(cx) {
-        return Ok(search);
+        return Ok(());
     }
     if !search.seen.insert(ty)? {
-        return Ok(search);
+        return Ok(());
     }
     match variable_of(cx, ty) {
         Some(variable) => {
             search.found.push(variable)?;
-            Ok(search)
+            Ok(())
         }
-        None => {
-            push_parts(cx, &mut search.pending, handle)?;
-            Ok(search)
-        }
+        None => push_parts(cx, &mut search.pending, handle),
     }
 }
 
