@@ -264,10 +264,7 @@ pub fn compare(cx: &Interner, table: &mut Table, left: Ty, right: Ty) -> Result<
         pairs: Vec::new(cx.allocator()),
         compared: IndexSet::new(cx.allocator()),
     };
-    comparison.pairs.push(Pair {
-        left: left.child(),
-        right: right.child(),
-    })?;
+    unify_types(cx, table, &mut comparison, left, right)?;
     for _ in 0..MOST_PAIRS {
         let Some(pair) = comparison.pairs.pop() else {
             return Ok(());

@@ -2,10 +2,10 @@ use Rattle.std.proofs.Common.{◌≡◌, [], ◌++◌, ◌∷◌, List, length, 
 use Rattle.std.proofs.lemmas.Result.{err_from_is_err_and}
 use Rattle.tt_interner.specs.Owned.{AreOwned}
 use Rattle.unify.specs.Bindings.{table_of, KeepsEarlier}
-use Rattle.unify.specs.Comparison.{IsComparing}
+use Rattle.unify.specs.Comparison.{types_pair, IsComparing}
 use Rattle.unify.specs.Pairs.{pair_shape, EquatesAll}
 use Rattle.unify.specs.Substitution.{IsOwn}
-use Rattle.unify.proofs.ComparisonLaws.{comparison_begins, comparison_goes}
+use Rattle.unify.proofs.ComparisonLaws.{comparison_begins, comparison_goes, earlier_itself}
 use Rattle.unify.proofs.PairLaws.{equates_popped, pairs_popped}
 use Rattle.unify.proofs.comparison.compare.Goals as goal
 
@@ -15,9 +15,35 @@ none_left (x ∷ xs) h = absurd (omega (arith, h))
 
 pub loop-init : goal.loop-init
 loop-init c =
-    rw (c.in_ok-push.ensures.items, c.new.ensures.items, c.child.ensures, c.child-2.ensures, c.new-2.ensures.empty)
-    (comparison_begins c.args.cx.now (table_of c.args.table.now) c.args.left c.args.right c.requires.entries
-    c.requires.left c.requires.right c.requires.links)
+    let first = table_of c.args.table.now in
+    comparison_goes c.args.cx.now first c.args.left c.args.right first (table_of c.unify_types.new.table) []
+    c.unify_types.new.comparison.pairs.items (types_pair c.args.left c.args.right) []
+    c.unify_types.new.comparison.compared.keys
+    (comparison_begins c.args.cx.now first c.args.left c.args.right c.requires.entries c.requires.left c.requires.right
+    c.requires.links)
+    c.in_ok-unify_types.ensures.grown
+    (rw (c.new.ensures.items, c.new-2.ensures.empty) at c.in_ok-unify_types.ensures.takes)
+
+pub returns-in_err-unify_types-clause-earlier : goal.returns-in_err-unify_types-clause-earlier
+returns-in_err-unify_types-clause-earlier c =
+    let first = table_of c.args.table.now in
+    subst (KeepsEarlier first) (sym c.in_err-unify_types.ensures.same) (earlier_itself first)
+
+pub returns-in_err-unify_types-clause-mismatch : goal.returns-in_err-unify_types-clause-mismatch
+returns-in_err-unify_types-clause-mismatch c =
+    let failed = c.from_residual in
+    let p = err_from_is_err_and failed.result failed.ensures.1 in
+    rw (p.1, p.2) (λ mismatch ρ own solves equal.
+    (c.in_err-unify_types.ensures.mismatch mismatch).never ρ (own, equal)
+    (record { solves = solves; equates = rw c.new.ensures.items tt }))
+
+pub returns-in_err-unify_types-clause-escapes : goal.returns-in_err-unify_types-clause-escapes
+returns-in_err-unify_types-clause-escapes c =
+    let failed = c.from_residual in
+    let p = err_from_is_err_and failed.result failed.ensures.1 in
+    rw (p.1, p.2) (λ escapes ρ closed solves equal.
+    (c.in_err-unify_types.ensures.escapes escapes).never ρ (closed, equal)
+    (record { solves = solves; equates = rw c.new.ensures.items tt }))
 
 pub loop-preserved : goal.loop-preserved
 loop-preserved c =

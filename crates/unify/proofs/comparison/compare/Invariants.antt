@@ -4,5 +4,5 @@ use Rattle.unify.proofs.comparison.compare.Given as goal
 
 -- how far the comparison is
 abbrev pub invariant-loop : goal.invariant-loop
-invariant-loop l = IsComparing l.cx (table_of l.initial.table) l.fn.left l.fn.right (table_of l.table)
+invariant-loop l = IsComparing l.cx (table_of l.fn.table) l.fn.left l.fn.right (table_of l.table)
     l.comparison.pairs.items l.comparison.compared.keys
