@@ -1,5 +1,6 @@
 pub mod ApplyLaws
 pub mod BindingsLaws
+pub mod ChainLaws
 pub mod ComparisonLaws
 pub mod FlagLaws
 pub mod FormEqualities

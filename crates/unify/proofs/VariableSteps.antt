@@ -51,7 +51,7 @@ variable_listed all (term l ts) v proper is at w = elim (cases_order w v) [
 variable_listed all t v proper is at w = absurd (cc)
 
 -- and is in itself
-variable_held : (t : Tree Depth) (v w : ℕ) → variable_in t ≡ Some v → w ≡ v → IsWithout w t → ⊥
+pub variable_held : (t : Tree Depth) (v w : ℕ) → variable_in t ≡ Some v → w ≡ v → IsWithout w t → ⊥
 variable_held (term l ts) v w is same without = without.0 (is ∙ ap (λ u. Some u) (sym same))
 variable_held t v w is same without = absurd (cc)
 

@@ -1,17 +1,18 @@
 //! The table of bindings.
 
-ghost use Rattle.std.specs.Prelude.{◌≡◌, ◌≤◌, ℕ, None, Some, get_or, length, IfErr, IfOk, OnErr, OnOk};
+ghost use Rattle.std.specs.Prelude.{◌≡◌, ◌≤◌, ℕ, None, Some, get_or, length, IfErr, IfOk, IfSome, OnErr, OnOk};
 ghost use Rattle.tt_kinds.specs.Kinds.{ty_shape};
 ghost use Rattle.tt_interner.specs.Owned.{IsOwned};
 ghost use Rattle.tt_interner.specs.Stored.{Extends, Terms};
 ghost use Rattle.tt_fold.specs.Steps.{tree_in};
-ghost use Rattle.unify.specs.Substitution.{apply, variable_in};
+ghost use Rattle.unify.specs.Resolver.{IsLinked};
+ghost use Rattle.unify.specs.Substitution.{apply, variable_in, Assignment, Solves};
 ghost use Rattle.unify.specs.Faults.{IsForRoom};
-ghost use Rattle.unify.specs.Bindings.{no_table, substitution, table_at, with_variable, IsTable, KeepsEarlier};
+ghost use Rattle.unify.specs.Bindings.{no_table, stored, substitution, table_at, with_variable, IsTable, KeepsEarlier};
 
 use crate::fault::Fault;
 use crate::memo::resolved;
-use crate::resolver::{entry_at, shallow_resolved};
+use crate::resolver::{entry_at, last_variable, shallow_resolved};
 use crate::undo::{Table, undo_from};
 use std::alloc::Global;
 use std::marker::Model;
@@ -120,6 +121,18 @@ impl Bindings {
         // A variable has no parts.
         cx.are_rows();
         shallow_resolved(cx, self.table.entries.as_slice(), ty)
+    }
+
+    /// Returns the end of the chain of variables that begins with this one, each of which is bound to the next one: a
+    /// variable that is unbound, or bound to a type that is no variable. Allocates nothing.
+    pub fn root(&self, cx: &Interner, variable: TyVid) -> TyVid
+        requires { IsTable cx.now self.now }
+        ensures same { (ρ : Assignment) → Solves ρ (substitution cx.now self.now) → ρ result ≡ ρ variable }
+        ensures chain { IsLinked (stored cx.now self.now.entries) variable result }
+        ensures end { IfSome (get_or self.now.entries result None)
+            (λ ty. variable_in (tree_in cx.now.rows (ty_shape ty)) ≡ None) }
+    {
+        last_variable(cx, self.table.entries.as_slice(), variable)
     }
 
     /// Returns the type to which the variable was bound, if it is bound. The type may hold bound variables.

@@ -10,7 +10,7 @@ ghost use Rattle.unify.specs.Pairs.{EquatesTypes};
 ghost use Rattle.unify.specs.Substitution.{apply, variable_in, Assignment, Solves};
 ghost use Rattle.unify.specs.Triangular.{links, IsAcyclic};
 ghost use Rattle.unify.specs.Bindings.{stored, table_shape};
-ghost use Rattle.unify.specs.Resolver.{binding, kind_variable, Resolves};
+ghost use Rattle.unify.specs.Resolver.{binding, kind_variable, linked_variable, IsLinked, Resolves};
 
 use tt_fold::{Step, TypeReplacer, replace_types_once};
 use tt_index::{Idx, Refusal, TyVid};
@@ -105,6 +105,38 @@ pub fn shallow_resolved(cx: &Interner, entries: &[Option<Ty>], ty: Ty) -> Ty
         ty = bound;
     }
     ty
+}
+
+// Returns the variable to which the variable is bound, if it is bound to one.
+fn linked_variable(cx: &Interner, entries: &[Option<Ty>], variable: TyVid) -> Option<TyVid>
+    requires { IsOwned table_shape cx.now entries.now }
+    ensures { result ≡ linked_variable (stored cx.now entries.now variable) }
+{
+    match entry_at(entries, variable) {
+        Some(ty) => variable_of(cx, ty),
+        None => None,
+    }
+}
+
+/// Returns the end of the chain of variables that begins with this one, each of which is bound to the next one.
+pub fn last_variable(cx: &Interner, entries: &[Option<Ty>], variable: TyVid) -> TyVid
+    requires entries { IsOwned table_shape cx.now entries.now }
+    requires links { IsAcyclic (links (stored cx.now entries.now)) }
+    ensures same { (ρ : Assignment) → Solves ρ (stored cx.now entries.now) → ρ result ≡ ρ variable }
+    ensures chain { IsLinked (stored cx.now entries.now) variable result }
+    ensures end { linked_variable (stored cx.now entries.now result) ≡ None }
+{
+    // A variable has no parts.
+    cx.are_rows();
+    let mut variable = variable;
+    // No chain has more variables than the table.
+    for _ in 0..entries.len() {
+        let Some(next) = linked_variable(cx, entries, variable) else {
+            return variable;
+        };
+        variable = next;
+    }
+    variable
 }
 
 // Replaces each bound variable of a table by its binding.

@@ -1,6 +1,7 @@
 //! Types are made equal, and faults leave the bindings as they were.
 
 mod faults;
+mod roots;
 mod snapshots;
 mod solved;
 
