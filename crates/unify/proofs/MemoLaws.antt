@@ -1,9 +1,12 @@
 -- A type is resolved by a memo of resolved bindings, which is filled in rising ranks.
-use Rattle.std.proofs.Common.{arith, ◌≡◌, refl, ℕ, ◌<◌, List, length, get_or, set, Option, Some, None, sym, subst, ap, ◌∙◌}
-use Rattle.std.proofs.Common.{◌⊎◌, inl, inr, Contains, take, drop, drop-cons, replicate, zero, suc, [], ◌+◌, ◌++◌, ◌∷◌}
-use Rattle.std.proofs.lemmas.Bool.{cases_eq}
-use Rattle.std.proofs.lemmas.List.{length-set, get_or-set_same, get_or-set_other, length-replicate, take-append-drop, take_more}
+use Rattle.std.proofs.Common.{arith, ◌≡◌, refl, ℕ, ◌<◌, List, length, get_or, Option, Some, None, sym, subst, ap, ◌∙◌}
+use Rattle.std.proofs.Common.{◌⊎◌, inl, inr, Contains, take, drop, drop-cons, zero, suc, [], ◌+◌, ◌++◌, ◌∷◌, IfSome}
+use Rattle.std.proofs.Common.{Bool, true, false}
+use Rattle.std.specs.Map.{lookup}
+use Rattle.std.proofs.lemmas.Bool.{cases_Bool, cases_eq, true≢false}
+use Rattle.std.proofs.lemmas.List.{take-append-drop, take_more}
 use Rattle.std.proofs.lemmas.List.Elements.{Contains-push_cases}
+use Rattle.std.proofs.lemmas.Option.{same_Some}
 use Rattle.tt_kinds.specs.Tree.{Depth, Tree}
 use Rattle.tt_kinds.specs.Shape.{fill}
 use Rattle.tt_kinds.specs.Kinds.{ty_shape}
@@ -13,27 +16,91 @@ use Rattle.tt_interner.specs.Rows.{meaning}
 use Rattle.tt_interner.specs.Owned.{AreOwned, IsOwned}
 use Rattle.tt_interner.specs.Stored.{Terms, Extends}
 use Rattle.tt_interner.proofs.Growth.{IsPart-grows, fill-grows}
-use Rattle.tt_interner.proofs.OwnedLaws.{owned_some, replicate_owned, set_owned}
+use Rattle.tt_interner.proofs.OwnedLaws.{owned_some}
 use Rattle.tt_fold.specs.Steps.{tree_in}
 use Rattle.unify.specs.Substitution.{apply, IsWithout}
 use Rattle.unify.specs.Bindings.{table_shape, stored, values, AreEntries}
-use Rattle.unify.specs.Memo.{Settles, AreSettled, IsReady, IsReadyAt, IsSettledTo}
+use Rattle.unify.specs.Memo.{put, entries_in, Settles, AreSettled, IsReady, IsReadyAt, IsSettledTo}
 use Rattle.unify.specs.Search.{IsOrder}
 use Rattle.unify.specs.Triangular.{resolved, IsChild}
 use Rattle.unify.specs.Variables.{ListsAll}
 use Rattle.unify.proofs.BindingsLaws.{bound_tree, reads, stored_stays}
+use Rattle.unify.proofs.SubstitutionLaws.{resolved_stays}
 use Rattle.unify.proofs.TriangularLaws.{applies_same}
 use Rattle.unify.proofs.TriangularCycles.{settled_by}
 use Rattle.unify.proofs.OwnSolution.{entry_inside}
 use Rattle.unify.proofs.TableLaws.{entries_stay, table_represents, values_stay}
 use Rattle.unify.proofs.TriangularSteps.{is_without}
 
+-- the later entries have this type as the variable's entry, and the others of the earlier ones
+pub record Puts (memo : List (Option Ty)) (v : ℕ) (r : Ty) (later : List (Option Ty)) : Type 0 where
+  pub own : get_or later v None ≡ Some r
+  pub others : (w : ℕ) → (w ≡ v → ⊥) → get_or later w None ≡ get_or memo w None
+
+put_own : (xs : List (Option Ty)) (v : ℕ) (t : Ty) → get_or (put xs v t) v None ≡ Some t
+put_own [] zero t = refl
+put_own [] (suc v) t = put_own [] v t
+put_own (x ∷ xs) zero t = refl
+put_own (x ∷ xs) (suc v) t = put_own xs v t
+
+put_others : (xs : List (Option Ty)) (v w : ℕ) (t : Ty) → (w ≡ v → ⊥) → get_or (put xs v t) w None ≡ get_or xs w None
+put_others [] zero zero t apart = absurd (apart refl)
+put_others [] zero (suc w) t apart = refl
+put_others [] (suc v) zero t apart = refl
+put_others [] (suc v) (suc w) t apart = put_others [] v w t (λ same. apart (ap suc same))
+put_others (x ∷ xs) zero zero t apart = absurd (apart refl)
+put_others (x ∷ xs) zero (suc w) t apart = refl
+put_others (x ∷ xs) (suc v) zero t apart = refl
+put_others (x ∷ xs) (suc v) (suc w) t apart = put_others xs v w t (λ same. apart (ap suc same))
+
+-- a map of variables that tells variables apart by `eq`, which says what is equal
+module _ (eq : ℕ → ℕ → Bool) (same : (a : ℕ) → eq a a ≡ true) (exact : (a b : ℕ) → eq a b ≡ true → a ≡ b) where
+  -- a variable's entry is what the map has of the variable
+  pub found_at : (ps : List (ℕ × Ty)) (v : ℕ) → get_or (entries_in ps) v None ≡ lookup (eq v) ps
+  found_at [] v = refl
+  found_at (p ∷ ps) v = elim (cases_Bool (eq v p.0)) [
+    | inl alike ↦ rw (alike, exact v p.0 alike) (put_own (entries_in ps) p.0 p.1)
+    | inr other ↦ rw other (put_others (entries_in ps) p.0 v p.1
+        (λ is. true≢false (sym (subst (λ w. eq v w ≡ true) is (same v)) ∙ other)) ∙ found_at ps v)
+  ]
+
+  -- an insertion puts the type, and keeps the others
+  pub inserted : (ps qs : List (ℕ × Ty)) (v : ℕ) (r : Ty) → lookup (eq v) qs ≡ Some r
+      → ((w : ℕ) → eq v w ≡ false → lookup (eq w) qs ≡ lookup (eq w) ps) → Puts (entries_in ps) v r (entries_in qs)
+  inserted ps qs v r own others = record {
+    own = found_at qs v ∙ own;
+    others = λ w apart. found_at qs w ∙ others w (distinct w apart) ∙ sym (found_at ps w);
+  }
+    where
+      distinct : (w : ℕ) → (w ≡ v → ⊥) → eq v w ≡ false
+      distinct w apart = elim (cases_Bool (eq v w)) [
+        | inl alike ↦ absurd (apart (sym (exact v w alike)))
+        | inr other ↦ other
+      ]
+
+-- entries that are the interner's one by one are the interner's
+pub entries_owned : (terms : Terms) (xs : List (Option Ty))
+    → ((w : ℕ) (q : Ty) → get_or xs w None ≡ Some q → IsOwned ty_shape terms q) → IsOwned table_shape terms xs
+unfolding fill
+entries_owned terms xs all = (refl, tt, by xs all)
+  where
+    by : (xs : List (Option Ty)) → ((w : ℕ) (q : Ty) → get_or xs w None ≡ Some q → IsOwned ty_shape terms q)
+        → AreOwned (option_shape ty_shape) terms xs
+    by [] all = tt
+    by (None ∷ xs) all = ((refl, tt, tt), by xs (λ w. all (suc w)))
+    by (Some q ∷ xs) all = (owned_some ty_shape terms q (all zero q refl), by xs (λ w. all (suc w)))
+
+-- what the map has of a variable is the interner's
+pub noted_owned : (terms : Terms) (xs : List (Option Ty)) (v : ℕ) (o : Option Ty) → get_or xs v None ≡ o
+    → IsOwned table_shape terms xs → IfSome o (λ b. IsOwned ty_shape terms b)
+noted_owned terms xs v None is owned = tt
+noted_owned terms xs v (Some b) is owned = entry_inside terms xs v b is owned.2
+
 -- whatever the interner builds, a memo stays one
 pub settles_grown : (terms new : Terms) (xs memo : List (Option Ty)) → Extends terms new → AreEntries terms xs
     → Settles terms xs memo → Settles new xs memo
 settles_grown terms new xs memo extends table settles = record {
   owned = IsPart-grows terms.rows new.rows extends.rows (table_shape memo) settles.owned;
-  len = settles.len;
   settled = λ v r is.
       let old = sym (ap (λ σ. σ v) (stored_stays terms new memo extends settles.owned)) ∙ is in
       ap (λ σ. σ v) (values_stay terms new xs extends table.owned) ∙ settles.settled v r old;
@@ -52,8 +119,9 @@ module _ (terms : Terms) (xs memo : List (Option Ty)) (settles : Settles terms x
       → apply (stored terms memo) t ≡ apply (values terms xs) t
   ready_resolves t ready = applies_same (stored terms memo) (values terms xs) t ready
 
-  module _ (table : AreEntries terms xs) (v : ℕ) (t r : Ty) (inside : v < length xs) (at : get_or xs v None ≡ Some t)
-      (ready : IsReady terms xs memo (tree_in terms.rows (ty_shape t))) (owned : IsOwned ty_shape terms r)
+  module _ (table : AreEntries terms xs) (v : ℕ) (t r : Ty) (later : List (Option Ty)) (puts : Puts memo v r later)
+      (at : get_or xs v None ≡ Some t) (ready : IsReady terms xs memo (tree_in terms.rows (ty_shape t)))
+      (owned : IsOwned ty_shape terms r)
       (folded : tree_in terms.rows (ty_shape r) ≡ apply (stored terms memo) (tree_in terms.rows (ty_shape t))) where
     here : stored terms xs v ≡ Some (tree_in terms.rows (ty_shape t))
     here = reads terms xs v ∙ ap (bound_tree (meaning terms.rows)) at
@@ -64,57 +132,44 @@ module _ (terms : Terms) (xs memo : List (Option Ty)) (settles : Settles terms x
         ∙ settled_by (stored terms xs) (stored terms memo) (values terms xs) (table_represents terms xs table) v
         (tree_in terms.rows (ty_shape t)) here ready
 
-    room : v < length memo
-    room = subst (λ n. v < n) (sym settles.len) inside
+    own : stored terms later v ≡ Some (tree_in terms.rows (ty_shape r))
+    own = reads terms later v ∙ ap (bound_tree (meaning terms.rows)) puts.own
 
-    own : stored terms (set memo v (Some r)) v ≡ Some (tree_in terms.rows (ty_shape r))
-    own =
-        reads terms (set memo v (Some r)) v
-        ∙ ap (bound_tree (meaning terms.rows)) (get_or-set_same memo v (Some r) None room)
-
-    other : (w : ℕ) → (w ≡ v → ⊥) → stored terms (set memo v (Some r)) w ≡ stored terms memo w
+    other : (w : ℕ) → (w ≡ v → ⊥) → stored terms later w ≡ stored terms memo w
     other w apart =
-        reads terms (set memo v (Some r)) w
-        ∙ ap (bound_tree (meaning terms.rows)) (get_or-set_other memo v w (Some r) None apart)
-        ∙ sym (reads terms memo w)
+        reads terms later w ∙ ap (bound_tree (meaning terms.rows)) (puts.others w apart) ∙ sym (reads terms memo w)
 
-    set_settled : (w : ℕ) (q : Tree Depth) → stored terms (set memo v (Some r)) w ≡ Some q
-        → (w ≡ v) ⊎ (w ≡ v → ⊥) → values terms xs w ≡ Some q
-    set_settled w q is (inl same) =
-        ap (values terms xs) same ∙ sym value ∙ sym own ∙ ap (stored terms (set memo v (Some r))) (sym same) ∙ is
-    set_settled w q is (inr apart) = settles.settled w q (sym (other w apart) ∙ is)
+    put_owned : (w : ℕ) (q : Ty) → get_or later w None ≡ Some q → (w ≡ v) ⊎ (w ≡ v → ⊥) → IsOwned ty_shape terms q
+    put_owned w q is (inl same) =
+        let one : Some r ≡ Some q = sym puts.own ∙ ap (λ u. get_or later u None) (sym same) ∙ is in
+        subst (IsOwned ty_shape terms) (same_Some r q one) owned
+    put_owned w q is (inr apart) = entry_inside terms memo w q (sym (puts.others w apart) ∙ is) settles.owned.2
+
+    put_settled : (w : ℕ) (q : Tree Depth) → stored terms later w ≡ Some q → (w ≡ v) ⊎ (w ≡ v → ⊥)
+        → values terms xs w ≡ Some q
+    put_settled w q is (inl same) =
+        ap (values terms xs) same ∙ sym value ∙ sym own ∙ ap (stored terms later) (sym same) ∙ is
+    put_settled w q is (inr apart) = settles.settled w q (sym (other w apart) ∙ is)
 
     -- the fold of a variable's entry is the variable's binding
-    pub settles_next : Settles terms xs (set memo v (Some r))
+    pub settles_next : Settles terms xs later
     settles_next = record {
-      owned = (
-        refl,
-        tt,
-        set_owned (option_shape ty_shape) terms memo v (Some r) settles.owned.2 (owned_some ty_shape terms r owned),
-      );
-      len = length-set memo v (Some r) ∙ settles.len;
-      settled = λ w q is. set_settled w q is (cases_eq w v);
+      owned = entries_owned terms later (λ w q is. put_owned w q is (cases_eq w v));
+      settled = λ w q is. put_settled w q is (cases_eq w v);
     }
 
     -- then the variable is settled, too
-    pub own_settled : stored terms (set memo v (Some r)) v ≡ values terms xs v
+    pub own_settled : stored terms later v ≡ values terms xs v
     own_settled = own ∙ value
 
     kept_by : (u : ℕ) → stored terms memo u ≡ values terms xs u → (u ≡ v) ⊎ (u ≡ v → ⊥)
-        → stored terms (set memo v (Some r)) u ≡ values terms xs u
-    kept_by u was (inl same) = subst (λ w. stored terms (set memo v (Some r)) w ≡ values terms xs w) (sym same) own_settled
+        → stored terms later u ≡ values terms xs u
+    kept_by u was (inl same) = subst (λ w. stored terms later w ≡ values terms xs w) (sym same) own_settled
     kept_by u was (inr apart) = other u apart ∙ was
 
     -- and the others stay so
-    pub kept_settled : (u : ℕ) → stored terms memo u ≡ values terms xs u
-        → stored terms (set memo v (Some r)) u ≡ values terms xs u
+    pub kept_settled : (u : ℕ) → stored terms memo u ≡ values terms xs u → stored terms later u ≡ values terms xs u
     kept_settled u was = kept_by u was (cases_eq u v)
-
--- a variable with a binding is one of the table's
-pub has_entry : (xs : List (Option Ty)) (v : ℕ) (t : Ty) → get_or xs v None ≡ Some t → v < length xs
-has_entry [] v t is = absurd (cc)
-has_entry (x ∷ xs) zero t is = omega arith
-has_entry (x ∷ xs) (suc v) t is = omega (arith, has_entry xs v t is)
 
 module _ (terms new : Terms) (xs memo : List (Option Ty)) (extends : Extends terms new) (table : AreEntries terms xs)
     (settles : Settles terms xs memo) where
@@ -138,8 +193,8 @@ module _ (terms new : Terms) (xs memo : List (Option Ty)) (extends : Extends ter
     kept = kept_grown;
   }
 
-  module _ (v : ℕ) (t r : Ty) (at : get_or xs v None ≡ Some t) (ready : IsReadyAt terms xs memo v)
-      (owned : IsOwned ty_shape new r)
+  module _ (v : ℕ) (t r : Ty) (later : List (Option Ty)) (puts : Puts memo v r later)
+      (at : get_or xs v None ≡ Some t) (ready : IsReadyAt terms xs memo v) (owned : IsOwned ty_shape new r)
       (folded : tree_in new.rows (ty_shape r) ≡ apply (stored terms memo) (tree_in terms.rows (ty_shape t))) where
     tree_stays : tree_in new.rows (ty_shape t) ≡ tree_in terms.rows (ty_shape t)
     tree_stays =
@@ -160,16 +215,15 @@ module _ (terms new : Terms) (xs memo : List (Option Ty)) (extends : Extends ter
         (sym (stored_stays terms new memo extends settles.owned)) ∙ ap (apply (stored new memo)) (sym tree_stays)
 
     -- a variable with a binding is settled by the fold of the binding
-    pub settled_bound : IsSettledTo terms new xs memo (set memo v (Some r)) v
+    pub settled_bound : IsSettledTo terms new xs memo later v
     settled_bound =
-        let later = settles_grown terms new xs memo extends table settles in
+        let grown = settles_grown terms new xs memo extends table settles in
         let entries = entries_stay terms new xs extends table in
-        let inside = has_entry xs v t at in
         record {
-          settles = settles_next new xs memo later entries v t r inside at ready_grown owned folded_grown;
-          own = own_settled new xs memo later entries v t r inside at ready_grown owned folded_grown;
+          settles = settles_next new xs memo grown entries v t r later puts at ready_grown owned folded_grown;
+          own = own_settled new xs memo grown entries v t r later puts at ready_grown owned folded_grown;
           kept = λ u was.
-              kept_settled new xs memo later entries v t r inside at ready_grown owned folded_grown u
+              kept_settled new xs memo grown entries v t r later puts at ready_grown owned folded_grown u
               (kept_grown u was);
         }
 
@@ -239,30 +293,17 @@ resolves start mid xs memo starts order ty extends table owned lists there settl
     ∙ ready_resolves mid xs memo settles (tree_in start.rows (ty_shape ty)) ready
     ∙ ap (λ σ. apply σ (tree_in start.rows (ty_shape ty))) (values_stay start mid xs extends table.owned)
 
-abbrev nones : ℕ → List (Option Ty)
-nones n = replicate n None
-
-none_at : (n v : ℕ) → get_or (nones n) v None ≡ None
-none_at zero v = refl
-none_at (suc n) zero = refl
-none_at (suc n) (suc v) = none_at n v
+-- a memo of nothing changes no tree
+pub nothing_noted : (terms : Terms) (ps : List (ℕ × Ty)) (t : Tree Depth) → length ps ≡ 0
+    → t ≡ apply (stored terms (entries_in ps)) t
+nothing_noted terms [] t none = sym (resolved_stays (stored terms []) t (λ v r is.
+    absurd (let free : stored terms [] v ≡ None = reads terms [] v in cc)))
+nothing_noted terms (p ∷ ps) t none = absurd (omega (arith, none))
 
 -- before the first variable nothing is settled, and nothing has to be
-pub first_settles : (terms : Terms) (xs memo : List (Option Ty)) → memo ≡ replicate (length xs) None
-    → Settles terms xs memo
+pub first_settles : (terms : Terms) (xs : List (Option Ty)) → Settles terms xs []
 unfolding fill
-first_settles terms xs memo is = record {
-  owned = (
-    refl,
-    tt,
-    subst (AreOwned (option_shape ty_shape) terms) (sym is)
-        (replicate_owned (option_shape ty_shape) terms (length xs) None (refl, tt, tt)),
-  );
-  len = ap length is ∙ length-replicate (length xs) None;
-  settled = λ v r at. absurd (
-      let none : get_or memo v None ≡ None =
-      ap (λ es. get_or es v None) is ∙ none_at (length xs) v in
-      let free : stored terms memo v ≡ None = reads terms memo v ∙ ap (bound_tree (meaning terms.rows)) none in
-      cc
-      );
+first_settles terms xs = record {
+  owned = (refl, tt, tt);
+  settled = λ v r at. absurd (let free : stored terms [] v ≡ None = reads terms [] v in cc);
 }

@@ -56,7 +56,7 @@ outside_or xs i d h = get_or_past xs i d (elim (cases_lt i (length xs)) [ inl le
 abbrev pub EntrySays : Terms → Substitution → Tree Depth → Option Ty → Type 0
 EntrySays terms σ t o = MatchOption o (binding σ t ≡ None) (λ b. binding σ t ≡ Some (tree_in terms.rows (ty_shape b)))
 
-entry_says : (terms : Terms) (σ : Substitution) (t : Tree Depth) (o : Option Ty) → binding σ t ≡ bound_tree (meaning terms.rows) o → EntrySays terms σ t o
+pub entry_says : (terms : Terms) (σ : Substitution) (t : Tree Depth) (o : Option Ty) → binding σ t ≡ bound_tree (meaning terms.rows) o → EntrySays terms σ t o
 entry_says terms σ t None h = h
 entry_says terms σ t (Some b) h = h
 

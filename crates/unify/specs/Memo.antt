@@ -1,5 +1,5 @@
 -- A memo of resolved bindings.
-use Rattle.std.specs.Prelude.{◌≡◌, ◌⊎◌, ℕ, Contains, List, Option, Some, length}
+use Rattle.std.specs.Prelude.{◌≡◌, ◌⊎◌, ℕ, zero, suc, Contains, List, [], ◌∷◌, Option, Some, None}
 use Rattle.tt_kinds.specs.Tree.{Depth, Tree}
 use Rattle.tt_kinds.specs.Handle.{Ty}
 use Rattle.tt_interner.specs.Owned.{IsOwned}
@@ -7,10 +7,21 @@ use Rattle.tt_interner.specs.Stored.{Terms}
 use Rattle.unify.specs.Substitution.{IsWithout}
 use Rattle.unify.specs.Bindings.{table_shape, stored, values}
 
+-- the entries with this type as the variable's entry, and as many more entries as that takes
+abbrev pub put : List (Option Ty) → ℕ → Ty → List (Option Ty)
+put [] zero t = Some t ∷ []
+put [] (suc v) t = None ∷ put [] v t
+put (x ∷ xs) zero t = Some t ∷ xs
+put (x ∷ xs) (suc v) t = x ∷ put xs v t
+
+-- the entries that pairs of a variable and its type are
+abbrev pub entries_in : List (ℕ × Ty) → List (Option Ty)
+entries_in [] = []
+entries_in (p ∷ ps) = put (entries_in ps) p.0 p.1
+
 -- a memo of resolved bindings: it has some of those that the table has, and no others
 pub record Settles (terms : Terms) (entries memo : List (Option Ty)) : Type 0 where
   pub owned : IsOwned table_shape terms memo
-  pub len : length memo ≡ length entries
   pub settled : (v : ℕ) (r : Tree Depth) → stored terms memo v ≡ Some r → values terms entries v ≡ Some r
 
 -- each variable in the tree is as the memo has it

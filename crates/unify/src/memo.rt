@@ -6,7 +6,7 @@ ghost use Rattle.tt_interner.specs.Owned.{IsOwned};
 ghost use Rattle.tt_interner.specs.Stored.{Extends};
 ghost use Rattle.tt_fold.specs.Steps.{tree_in};
 ghost use Rattle.unify.specs.Bindings.{stored, values, AreEntries};
-ghost use Rattle.unify.specs.Memo.{AreSettled, IsReadyAt, IsSettledTo, Settles};
+ghost use Rattle.unify.specs.Memo.{entries_in, AreSettled, IsReadyAt, IsSettledTo, Settles};
 ghost use Rattle.unify.specs.Search.{IsOrder};
 ghost use Rattle.unify.specs.Substitution.{apply};
 ghost use Rattle.unify.specs.Triangular.{IsChild};
@@ -15,7 +15,8 @@ ghost use Rattle.unify.specs.declared.search.Failure.TheVariants.{Cycle};
 use crate::resolver::{entry_at, replaced};
 use crate::search::{Failure, reached};
 use crate::variables::variables_in;
-use tt_index::{Idx, Refusal, TyVid};
+use indexmap::IndexMap;
+use tt_index::{Refusal, TyVid};
 use tt_interner::Interner;
 use tt_kinds::Ty;
 use tt_visit::TypeVisitableExt;
@@ -26,37 +27,43 @@ use tt_visit::TypeVisitableExt;
 fn settle(
     cx: &mut Interner,
     entries: &[Option<Ty>],
-    memo: &mut Vec<Option<Ty>>,
+    memo: &mut IndexMap<TyVid, Ty>,
     variable: TyVid,
 ) -> Result<(), Refusal>
     requires table { AreEntries cx.old entries.now }
-    requires settles { Settles cx.old entries.now memo.old.items }
-    requires ready { IsReadyAt cx.old entries.now memo.old.items variable }
+    requires settles { Settles cx.old entries.now (entries_in memo.old.entries) }
+    requires ready { IsReadyAt cx.old entries.now (entries_in memo.old.entries) variable }
     ensures extends { Extends cx.old cx.new }
-    ensures settled { OnOk result (IsSettledTo cx.old cx.new entries.now memo.old.items memo.new.items variable) }
+    ensures settled { OnOk result (IsSettledTo
+        cx.old
+        cx.new
+        entries.now
+        (entries_in memo.old.entries)
+        (entries_in memo.new.entries)
+        variable) }
 {
     let Some(ty) = entry_at(entries, variable) else {
         return Ok(());
     };
-    let binding = replaced(cx, memo.as_slice(), ty)?;
-    memo[variable.as_usize()] = Some(binding);
+    let binding = replaced(cx, memo, ty)?;
+    memo.insert(variable, binding)?;
     Ok(())
 }
 
-// Returns the bindings of the variables in the order, each with all bound variables replaced.
+// Returns the bindings of those variables in the order that have one, each with all bound variables replaced.
 #[tactic(auto, using(crate::proofs::BindingsLaws::extends_further))]
 fn settled(
     cx: &mut Interner,
     entries: &[Option<Ty>],
     order: &[TyVid],
-) -> Result<Vec<Option<Ty>>, Refusal>
+) -> Result<IndexMap<TyVid, Ty>, Refusal>
     requires table { AreEntries cx.old entries.now }
     requires order { IsOrder (IsChild (stored cx.old entries.now)) order.now }
     ensures extends { Extends cx.old cx.new }
-    ensures settles { IfOk result (λ memo. Settles cx.new entries.now memo.items) }
-    ensures all { IfOk result (λ memo. AreSettled cx.new entries.now memo.items order.now) }
+    ensures settles { IfOk result (λ memo. Settles cx.new entries.now (entries_in memo.entries)) }
+    ensures all { IfOk result (λ memo. AreSettled cx.new entries.now (entries_in memo.entries) order.now) }
 {
-    let mut memo = vec![in cx.allocator(); None; entries.len()]?;
+    let mut memo = IndexMap::new(cx.allocator());
     for place in 0..order.len() {
         settle(cx, entries, &mut memo, order[place])?;
     }
@@ -93,5 +100,5 @@ pub fn resolved(cx: &mut Interner, entries: &[Option<Ty>], ty: Ty) -> Result<Ty,
         Err(failure) => return Err(refusal_of(failure)),
     };
     let memo = settled(cx, entries, order.as_slice())?;
-    replaced(cx, memo.as_slice(), ty)
+    replaced(cx, &memo, ty)
 }

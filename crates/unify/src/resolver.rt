@@ -10,8 +10,10 @@ ghost use Rattle.unify.specs.Pairs.{EquatesTypes};
 ghost use Rattle.unify.specs.Substitution.{apply, variable_in, Assignment, Solves};
 ghost use Rattle.unify.specs.Triangular.{links, IsAcyclic};
 ghost use Rattle.unify.specs.Bindings.{stored, table_shape};
+ghost use Rattle.unify.specs.Memo.{entries_in};
 ghost use Rattle.unify.specs.Resolver.{binding, kind_variable, linked_variable, IsLinked, Resolves};
 
+use indexmap::IndexMap;
 use tt_fold::{Step, TypeReplacer, replace_types_once};
 use tt_index::{Idx, Refusal, TyVid};
 use tt_interner::{InternedKind, Interner};
@@ -139,16 +141,33 @@ pub fn last_variable(cx: &Interner, entries: &[Option<Ty>], variable: TyVid) -> 
     variable
 }
 
-// Replaces each bound variable of a table by its binding.
+// Returns the type in the memo, if the type is one of the memo's variables.
+fn noted(cx: &Interner, memo: &IndexMap<TyVid, Ty>, ty: Ty) -> Option<Ty>
+    requires memo { IsOwned table_shape cx.now (entries_in memo.now.entries) }
+    requires ty { IsOwned ty_shape cx.now ty }
+    ensures owned { IfSome result (λ bound. IsOwned ty_shape cx.now bound) }
+    ensures is { MatchOption
+        result
+        (binding (stored cx.now (entries_in memo.now.entries)) (tree_in cx.now.rows (ty_shape ty)) ≡ None)
+        (λ bound. binding (stored cx.now (entries_in memo.now.entries)) (tree_in cx.now.rows (ty_shape ty))
+        ≡ Some (tree_in cx.now.rows (ty_shape bound))) }
+{
+    match variable_of(cx, ty) {
+        Some(variable) => memo.get(&variable).copied(),
+        None => None,
+    }
+}
+
+// Replaces each variable of a memo by the memo's type.
 #[derive(Drop)]
 struct Resolver<'a> {
-    entries: &'a [Option<Ty>],
+    memo: &'a IndexMap<TyVid, Ty>,
 }
 
 impl<'a> TypeReplacer for Resolver<'a> {
     type Error = Refusal;
 
-    ghost shape = { λ s. table_shape s.entries.now };
+    ghost shape = { λ s. table_shape (entries_in s.memo.now.entries) };
 
     ghost hooks = { never_fails (λ s t a. Resolves s.state t a) };
 
@@ -156,21 +175,27 @@ impl<'a> TypeReplacer for Resolver<'a> {
         if !ty.has_infer_types(cx) {
             return Ok(Step::Keep);
         }
-        match binding_of(cx, self.entries, ty) {
+        match noted(cx, self.memo, ty) {
             Some(bound) => Ok(Step::Replace(bound)),
             None => Ok(Step::Descend),
         }
     }
 }
 
-/// Returns the type with each variable replaced by the type in its entry, if there is one.
-pub fn replaced(cx: &mut Interner, entries: &[Option<Ty>], ty: Ty) -> Result<Ty, Refusal>
-    requires entries { IsOwned table_shape cx.old entries.now }
+/// Returns the type with each variable of the memo replaced by the memo's type.
+pub fn replaced(cx: &mut Interner, memo: &IndexMap<TyVid, Ty>, ty: Ty) -> Result<Ty, Refusal>
+    requires memo { IsOwned table_shape cx.old (entries_in memo.now.entries) }
     requires ty { IsOwned ty_shape cx.old ty }
     ensures extends { Extends cx.old cx.new }
     ensures owned { IfOk result (λ new. IsOwned ty_shape cx.new new) }
     ensures plain { IfOk result (λ new. tree_in cx.new.rows (ty_shape new)
-        ≡ apply (stored cx.old entries.now) (tree_in cx.old.rows (ty_shape ty))) }
+        ≡ apply (stored cx.old (entries_in memo.now.entries)) (tree_in cx.old.rows (ty_shape ty))) }
 {
-    replace_types_once(cx, ty, Resolver { entries })
+    if memo.is_empty() {
+        return Ok(ty);
+    }
+    if !ty.has_infer_types(cx) {
+        return Ok(ty);
+    }
+    replace_types_once(cx, ty, Resolver { memo })
 }

@@ -5,7 +5,7 @@ use Rattle.tt_kinds.specs.Scan.{scan}
 use Rattle.tt_fold.specs.Steps.{tree_in}
 use Rattle.tt_fold.proofs.KeptLaws.{misses}
 use Rattle.unify.specs.Bindings.{stored, values}
-use Rattle.unify.specs.Memo.{AreSettled, Settles}
+use Rattle.unify.specs.Memo.{entries_in}
 use Rattle.unify.specs.Search.{IsOrder}
 use Rattle.unify.specs.Triangular.{IsChild}
 use Rattle.unify.proofs.FlagLaws.{unflagged_without}
@@ -36,14 +36,13 @@ returns-clause-plain c =
     let terms = c.args.cx.now in
     let mid = c.settled.new.cx in
     let xs = c.args.entries.now in
-    let memo = c.as_slice-3.result.now in
+    let memo = entries_in c.in_ok-memo.memo.entries in
     let order = c.as_slice-2.result.now in
-    let settles = subst (Settles mid xs) (sym c.as_slice-3.ensures.value) c.in_ok-memo.ensures.settles in
-    let all = subst (λ m. AreSettled mid xs m order) (sym c.as_slice-3.ensures.value) c.in_ok-memo.ensures.all in
     let there : ((v : ℕ) → Contains c.in_ok-starts.starts.items v → Contains order v) =
     λ v at. subst (λ vs. Contains vs v) (sym c.as_slice-2.ensures.value)
     (c.in-Ok.ensures.starts v (subst (λ vs. Contains vs v) (sym c.as_slice.ensures.value) at)) in
     let same = resolves terms mid xs memo c.in_ok-starts.starts.items order c.args.ty c.settled.ensures.extends
-    c.requires.table c.requires.ty c.in_ok-starts.ensures.all there settles all in
+    c.requires.table c.requires.ty c.in_ok-starts.ensures.all there c.in_ok-memo.ensures.settles
+    c.in_ok-memo.ensures.all in
     subst (λ t. IfOk c.replaced.result (λ new. tree_in c.replaced.new.cx.rows (ty_shape new) ≡ t)) same
     c.replaced.ensures.plain
