@@ -143,3 +143,17 @@ module _ (terms : Terms) (xs : List (Option Ty)) (are : AreRows terms.rows) (tab
       let σ : Substitution = values terms xs in
       assigned_applies σ (tree_in terms.rows (ty_shape left)) (type_proper terms.rows are left) ∙ same
       ∙ sym (assigned_applies σ (tree_in terms.rows (ty_shape right)) (type_proper terms.rows are right))
+
+  -- two types that whatever solves the entries makes equal resolve to one
+  pub resolve_alike : (left right : Ty)
+      → ((ρ : Assignment) → Solves ρ (stored terms xs)
+      → assign ρ (tree_in terms.rows (ty_shape left)) ≡ assign ρ (tree_in terms.rows (ty_shape right)))
+      → apply (values terms xs) (tree_in terms.rows (ty_shape right))
+      ≡ apply (values terms xs) (tree_in terms.rows (ty_shape left))
+  resolve_alike left right same =
+      let σ : Substitution = values terms xs in
+      let own : Solves (as_assignment σ) (stored terms xs) =
+      own_solves (stored terms xs) σ (table_represents terms xs table) proper in
+      sym (assigned_applies σ (tree_in terms.rows (ty_shape right)) (type_proper terms.rows are right))
+      ∙ sym (same (as_assignment σ) own)
+      ∙ assigned_applies σ (tree_in terms.rows (ty_shape left)) (type_proper terms.rows are left)

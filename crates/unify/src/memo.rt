@@ -12,7 +12,7 @@ ghost use Rattle.unify.specs.Substitution.{apply};
 ghost use Rattle.unify.specs.Triangular.{IsChild};
 ghost use Rattle.unify.specs.declared.search.Failure.TheVariants.{Cycle};
 
-use crate::resolver::{entry_at, replaced};
+use crate::resolver::{entry_at, replaced, shallow_resolved};
 use crate::search::{Failure, reached};
 use crate::variables::variables_in;
 use indexmap::IndexMap;
@@ -91,6 +91,9 @@ pub fn resolved(cx: &mut Interner, entries: &[Option<Ty>], ty: Ty) -> Result<Ty,
     ensures plain { IfOk result (λ new. tree_in cx.new.rows (ty_shape new)
         ≡ apply (values cx.old entries.now) (tree_in cx.old.rows (ty_shape ty))) }
 {
+    // A variable has no parts.
+    cx.are_rows();
+    let ty = shallow_resolved(cx, entries, ty);
     if !ty.has_infer_types(cx) {
         return Ok(ty);
     }
