@@ -6,6 +6,7 @@
 mod built;
 mod copies;
 mod declared;
+mod derivations;
 mod folders;
 mod iterators;
 mod lists;
@@ -45,6 +46,8 @@ pub enum Routine {
     VariablesAreValidated,
     /// Two types with variables are made equal.
     TypesAreUnified,
+    /// A log follows from two implementations.
+    DerivationsAreChecked,
     /// Each call declares its sort by its name, and once more by another id.
     SortsAreDeclared,
     /// A parameter, a reference and a tuple are what the call for all types builds.
@@ -82,6 +85,7 @@ impl Routine {
             "items_are_collected" => Some(Routine::ItemsAreCollected),
             "variables_are_validated" => Some(Routine::VariablesAreValidated),
             "types_are_unified" => Some(Routine::TypesAreUnified),
+            "derivations_are_checked" => Some(Routine::DerivationsAreChecked),
             "sorts_are_declared" => Some(Routine::SortsAreDeclared),
             "types_are_built" => Some(Routine::TypesAreBuilt),
             "assumptions_are_folded" => Some(Routine::AssumptionsAreFolded),
@@ -111,6 +115,7 @@ impl Routine {
             Routine::ItemsAreCollected => iterators::items_are_collected(cx),
             Routine::VariablesAreValidated => validation::variables_are_validated(cx),
             Routine::TypesAreUnified => unification::types_are_unified(cx),
+            Routine::DerivationsAreChecked => derivations::derivations_are_checked(cx),
             Routine::SortsAreDeclared => declared::sorts_are_declared(cx),
             Routine::TypesAreBuilt => built::types_are_built(cx),
             Routine::AssumptionsAreFolded => built::assumptions_are_folded(cx),

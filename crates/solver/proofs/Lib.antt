@@ -1,0 +1,9 @@
+pub mod ArgumentLaws
+pub mod AssignLaws
+pub mod ClosedLaws
+pub mod DerivationExamples
+pub mod DerivationLaws
+pub mod LogLaws
+pub mod OutcomeLaws
+pub mod ProgramLaws
+pub mod WrittenLaws

@@ -1,0 +1,6 @@
+pub mod Answers
+pub mod Derivations
+pub mod Log
+pub mod Program
+pub mod Stable
+pub mod Written
