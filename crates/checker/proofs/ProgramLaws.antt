@@ -1,7 +1,7 @@
 -- The bodies of a program, typed in turn.
-use Rattle.std.proofs.Common.{◌≡◌, ℕ, zero, suc, List, [], ◌∷◌, ◌++◌, Option, Some, None, sym, subst, ap, ◌∙◌, arith}
+use Rattle.std.proofs.Common.{◌≡◌, ℕ, zero, suc, List, [], ◌∷◌, ◌++◌, Option, Some, None, refl, sym, subst, ap, ◌∙◌, arith}
 use Rattle.std.proofs.Common.{inl, inr}
-use Rattle.std.specs.Prelude.{slice_get, MatchOption}
+use Rattle.std.specs.Prelude.{slice_get, IfOk, IsOk, MatchOption, Ok, Err, Result}
 use Rattle.std.proofs.lemmas.List.Elements.{All-append}
 use Rattle.std.proofs.lemmas.Option.{get_or_from_slice_get, slice_get_within}
 use Rattle.std.specs.declared.alloc.Global.{Global}
@@ -17,6 +17,7 @@ use Rattle.checker_syntax.specs.declared.program.Program.{Program}
 use Rattle.checker.specs.Items.{AreTyped}
 use Rattle.checker.specs.Scope.{AreTypedFirst, IsTypedFunction, body_around}
 use Rattle.checker.specs.Typing.{IsTypedBody}
+use Rattle.checker.specs.declared.failure.Failure.{Failure}
 use Rattle.checker.proofs.ListLaws.{below_next, get_more, get_pushed, length_pushed}
 use Rattle.checker.proofs.TreeLaws.{trees_stay}
 
@@ -95,3 +96,27 @@ typed_function_next old new program ids bodies n function types extends all firs
     ))
   ];
 }
+
+-- the first functions have types
+abbrev pub HaveTypes : Terms → Program → List ℕ → ℕ → Type 0
+HaveTypes terms program ids n = (bodies : List (Vec Ty Global)) × AreTyped terms bodies × AreTypedFirst terms program ids bodies n
+
+-- no functions have
+pub none_have : (terms : Terms) (program : Program) (ids : List ℕ) → HaveTypes terms program ids 0
+none_have terms program ids = (
+  [],
+  (λ k d less. absurd (omega (arith, less))),
+  record { counted = refl; each = λ f function less at. absurd (omega (arith, less)) },
+)
+
+-- and one more function has, if its check succeeded
+pub types_next : (old new : Terms) (program : Program) (ids : List ℕ) (n : ℕ) (function : Function)
+    (checked : Result (Vec Ty Global) Failure) → Extends old new → slice_get program.functions.items n ≡ Some function → IsOk checked
+    → IfOk checked (λ types. AreOwned ty_shape new types.items) → IfOk checked (λ types. IsTypedFunction new program ids function types.items)
+    → HaveTypes old program ids n → HaveTypes new program ids (suc n)
+types_next old new program ids n function (Ok types) extends at is owned typed first = (
+  first.0 ++ types ∷ [],
+  all_pushed new first.0 types (all_stay old new first.0 extends first.1) owned,
+  typed_function_next old new program ids first.0 n function types extends first.1 first.2 at typed,
+)
+types_next old new program ids n function (Err e) extends at is owned typed first = absurd (cc)

@@ -83,6 +83,10 @@ pub record IsTypedProgram (terms : Terms) (program : Program) (ids : List ℕ) (
   pub distinct : AreDistinct ids
   pub typed : AreTypedBodies terms program ids bodies
 
+-- the program has types by the rules
+abbrev pub HasTyping : Terms → Program → Type 0
+HasTyping terms program = (ids : List ℕ) × (bodies : List (Vec Ty Global)) × IsTypedProgram terms program ids bodies
+
 -- the arguments in a stored list, as trees
 abbrev pub argument_trees : Terms → GenericArgs → List (Argument Depth)
 argument_trees terms args = arguments terms.rows (args_at terms.rows args)

@@ -1,11 +1,11 @@
 //! Whole programs.
 
-ghost use Rattle.std.specs.Prelude.{IfOk};
+ghost use Rattle.std.specs.Prelude.{◌≡◌, [], IfOk, IsOk, OnOk};
 ghost use Rattle.tt_kinds.specs.Kinds.{ty_shape};
 ghost use Rattle.tt_interner.specs.Owned.{AreOwned};
 ghost use Rattle.tt_interner.specs.Stored.{Extends};
 ghost use Rattle.checker.specs.Items.{AreTyped, ids_of, IsDeclared};
-ghost use Rattle.checker.specs.Scope.{AreTypedBodies, IsTypedFunction, IsTypedProgram};
+ghost use Rattle.checker.specs.Scope.{AreTypedBodies, HasTyping, IsTypedFunction, IsTypedProgram};
 
 use crate::declared::{Declared, declare};
 use crate::failure::Failure;
@@ -108,19 +108,26 @@ fn types_of(
     Ok(found.types)
 }
 
-// Returns the mistake that ended a check, or none if the check found types.
-fn mistake_in(checked: Result<Vec<Ty>, Failure>) -> Result<Option<Mistake>, Failure> {
+// Adds the mistake that ended a check, if one did.
+fn note_mistake(found: &mut Vec<Mistake>, checked: Result<Vec<Ty>, Failure>) -> Result<(), Failure>
+    ensures none { OnOk result (found.new.items ≡ [] → (found.old.items ≡ []) × IsOk checked) }
+{
     match checked {
-        Ok(_types) => Ok(None),
-        Err(Failure::Wrong(mistake)) => Ok(Some(mistake)),
+        Ok(_types) => Ok(()),
+        Err(Failure::Wrong(mistake)) => {
+            found.push(mistake)?;
+            Ok(())
+        }
         Err(failure) => Err(failure),
     }
 }
 
-/// Returns the first mistake in each function's body, in the order of the functions.
+/// Returns the first mistake in each function's body, in the order of the functions. A program without a mistake has
+/// types by the rules.
 #[tactic(auto, using(crate::proofs::ClientLaws::growth_laws))]
 pub fn mistakes(cx: &mut Interner, program: &Program) -> Result<Vec<Mistake>, Failure>
-    ensures { Extends cx.old cx.new }
+    ensures extends { Extends cx.old cx.new }
+    ensures typed { IfOk result (λ found. found.items ≡ [] → HasTyping cx.new program.now) }
 {
     let declared = declare(cx, program)?;
     let mut found = Vec::new(cx.allocator());
@@ -128,9 +135,8 @@ pub fn mistakes(cx: &mut Interner, program: &Program) -> Result<Vec<Mistake>, Fa
         let Some(function) = program.functions.get(number) else {
             return Err(Failure::Malformed);
         };
-        if let Some(mistake) = mistake_in(types_of(cx, program, &declared, function))? {
-            found.push(mistake)?;
-        }
+        let checked = types_of(cx, program, &declared, function);
+        note_mistake(&mut found, checked)?;
     }
     Ok(found)
 }
