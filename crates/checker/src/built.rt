@@ -14,7 +14,9 @@ use crate::lookup::{at, part_of};
 use crate::scope::{Scope, operand, operands, written};
 use crate::types::{reference_to, tuple_of};
 use checker_syntax::program::{Expression, Literal};
-use type_terms::prelude::*;
+use tt_index::IntTy;
+use tt_interner::Interner;
+use tt_kinds::{Ty, TyKind};
 
 /// Returns the type of an expression whose type follows from its operands' types: a literal, an argument, a use of a
 /// variable, a tuple or a reference.

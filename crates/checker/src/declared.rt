@@ -24,7 +24,12 @@ use crate::failure::Failure;
 use crate::lookup::{at, name_of, part_of, type_at, type_before, types_before};
 use crate::types::{data_type_of, parameter, reference_to, tuple_of};
 use checker_syntax::program::{DataType, Function, Program, WrittenType};
-use type_terms::prelude::*;
+use tt_index::{ExternAbi, IntTy, Safety};
+use tt_interner::Interner;
+use tt_kinds::{
+    AdtId, Binder, BoundVarKinds, EarlyBinder, FieldDef, FnSig, FnSigKind, FunctionId, Symbol, Ty,
+    TyKind, Tys, VariantDef,
+};
 
 /// A program's items, and the types that it writes.
 #[derive(Drop)]

@@ -3,7 +3,7 @@
 use crate::mistake::Mistake;
 use std::alloc::{AllocError, AllocFailed};
 use thiserror::Error;
-use type_terms::Refusal;
+use tt_index::Refusal;
 
 /// Why a program isn't accepted, or isn't checked to its end.
 #[derive(Debug, Drop, Error)]

@@ -24,7 +24,9 @@ use crate::scope::{Scope, let_of, operand, place_of, type_of, written};
 use crate::types::reference_to;
 use checker_syntax::program::{Body, Expression, Function, Place, Program};
 use equality::{equate, fresh_variables, is_of};
-use type_terms::prelude::*;
+use tt_interner::Interner;
+use tt_kinds::Ty;
+use tt_visit::TypeVisitableExt;
 use unify::Bindings;
 
 /// The inferred types of a body.

@@ -1,4 +1,4 @@
-//! A checker of a small language with generics, a client of `type_terms` and `unify`.
+//! A checker of a small language with generics, a client of the library and of `unify`.
 //!
 //! [`check`] infers the types of a program's expressions, and compares them with the typing rules. [`run`] reads a
 //! source and writes the verdict.

@@ -11,7 +11,8 @@ ghost use Rattle.checker.specs.Written.{part};
 
 use crate::failure::Failure;
 use checker_syntax::program::{Program, Span};
-use type_terms::{Interner, Ty};
+use tt_interner::Interner;
+use tt_kinds::Ty;
 
 /// Returns the item of this number.
 pub fn at<T: Copy>(list: &[T], number: usize) -> Result<T, Failure>

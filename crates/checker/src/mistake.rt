@@ -9,7 +9,8 @@ ghost use Rattle.unify.specs.Bindings.{IsTable};
 use crate::failure::Failure;
 use crate::lookup::name_of;
 use checker_syntax::program::{Function, Place, Program};
-use type_terms::prelude::*;
+use tt_interner::Interner;
+use tt_kinds::Ty;
 use unify::{Bindings, Fault};
 
 /// What is wrong with a program, and where.

@@ -16,7 +16,8 @@ use crate::scope::Scope;
 use crate::type_text::text_of;
 use crate::verify::verify;
 use checker_syntax::program::{Expression, Function, Program};
-use type_terms::prelude::*;
+use tt_interner::Interner;
+use tt_kinds::Ty;
 
 /// An accepted program: its declared items, and the types of each function's expressions. A function that is only
 /// declared has no expressions.

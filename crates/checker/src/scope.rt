@@ -12,7 +12,8 @@ use crate::declared::Declared;
 use crate::failure::Failure;
 use crate::lookup::{at, type_at, type_before, types_before};
 use checker_syntax::program::{Body, Expression, Function, Place, Program};
-use type_terms::{Interner, Ty};
+use tt_interner::Interner;
+use tt_kinds::Ty;
 
 /// A function's body, what is declared around it, and the types of its expressions. During inference these types are
 /// inference variables.

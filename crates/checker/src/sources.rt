@@ -11,7 +11,7 @@ use checker_syntax::syntax_error::SyntaxError;
 use std::alloc::{AllocError, Global};
 use std::io;
 use std::io::{Read, Write};
-use type_terms::Interner;
+use tt_interner::Interner;
 
 /// The verdict on a program.
 #[derive(Debug, Drop)]

@@ -7,7 +7,9 @@ ghost use Rattle.tt_kinds.specs.Kinds.{ty_shape};
 ghost use Rattle.tt_interner.specs.Owned.{IsOwned};
 
 use crate::failure::Failure;
-use type_terms::prelude::*;
+use tt_interner::{InternedKind, InternedList, InternedText, Interner};
+use tt_kinds::{DefId, GenericArg, Ty, TyKind};
+use tt_print::IrPrint;
 
 // The greatest number of names and marks in a type's text.
 const MOST_PIECES: usize = 100;

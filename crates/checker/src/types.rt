@@ -13,7 +13,10 @@ ghost use Rattle.checker.specs.Typing.{AreTypeArguments, IsItemOf, Reaches, valu
 
 use crate::failure::Failure;
 use crate::lookup::type_at;
-use type_terms::prelude::*;
+use tt_index::Mutability;
+use tt_interner::{InternedKind, InternedList, Interner};
+use tt_kinds::{AdtId, FunctionId, GenericArg, GenericArgKind, GenericArgs, Region, Ty, TyKind};
+use tt_visit::TypeVisitableExt;
 
 // The greatest number of references that are taken off a type.
 const MOST_REFERENCES: u32 = u32::MAX;

@@ -20,7 +20,9 @@ use crate::types::{item_type, reference_to, without_references};
 use checker_syntax::program::Expression;
 use formed::{formed_types, is_marked, parameters};
 use instances::{verify_call, verify_data, verify_field};
-use type_terms::prelude::*;
+use tt_interner::Interner;
+use tt_kinds::Ty;
+use tt_visit::TypeVisitableExt;
 
 /// Compares the type of each expression with its rule, and the type of the result with the written output type. The
 /// type arguments of a call are the arguments of its subject. Each type has to be well formed within the function.

@@ -7,7 +7,8 @@ use crate::report::{Extent, Note, Report};
 use crate::type_text::{item_name, text_of};
 use checker_syntax::message::Message;
 use checker_syntax::program::{DataType, Function, Place, Program};
-use type_terms::prelude::*;
+use tt_interner::Interner;
+use tt_kinds::Ty;
 
 // The greatest number of fields of a data type that a note names.
 const MOST_FIELDS: usize = 12;

@@ -16,8 +16,9 @@ use crate::mistake::{Item, Mistake, Origin, wrong_count};
 use crate::scope::{Scope, operand, place_of};
 use crate::types::{data_type_of, function_of};
 use checker_syntax::program::Span;
-use type_terms::FieldInfo;
-use type_terms::prelude::*;
+use tt_binder::{DataTypes, TypeSignature};
+use tt_interner::{InternedKind, InternedList, Interner, SignatureTys};
+use tt_kinds::{AdtId, FieldInfo, FnSig, FunctionId, Ty};
 use unify::Bindings;
 
 // Returns the type of the function of this id at new variables, one for each of this many parameters.

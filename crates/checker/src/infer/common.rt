@@ -7,7 +7,8 @@ ghost use Rattle.unify.specs.Bindings.{IsTable};
 
 use crate::failure::Failure;
 use crate::mistake::Pair;
-use type_terms::prelude::*;
+use tt_interner::{InternedKind, InternedList, Interner};
+use tt_kinds::{Ty, TyKind};
 use unify::{Bindings, Fault, unify};
 
 // The greatest number of types around a difference that are looked into.

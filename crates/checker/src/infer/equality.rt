@@ -12,7 +12,8 @@ use crate::infer::common::unify_common;
 use crate::mistake::{Mistake, Origin, mismatch};
 use crate::scope::{Scope, place_of, type_of};
 use checker_syntax::program::Place;
-use type_terms::prelude::*;
+use tt_interner::Interner;
+use tt_kinds::Ty;
 use unify::{Bindings, Fault, unify};
 
 // Returns a new variable.

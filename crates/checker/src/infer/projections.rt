@@ -15,7 +15,9 @@ use crate::lookup::at;
 use crate::mistake::{Mistake, Wanted, no_field, no_item, unknown_type};
 use crate::scope::{Scope, let_of, operand, place_of};
 use crate::types::{item_type, without_references};
-use type_terms::prelude::*;
+use tt_binder::DataTypes;
+use tt_interner::{InternedKind, Interner};
+use tt_kinds::{Symbol, Ty, TyKind};
 use unify::Bindings;
 
 // Returns the type of the operand as far as the type is known, without the references around it.

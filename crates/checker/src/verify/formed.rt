@@ -26,7 +26,9 @@ use crate::scope::Scope;
 use crate::types::parameter;
 use crate::verify::instances::arguments_of;
 use checker_syntax::program::{Function, Program};
-use type_terms::prelude::*;
+use tt_index::{IntTy, Mutability};
+use tt_interner::{InternedKind, InternedList, Interner};
+use tt_kinds::{AdtId, GenericArgs, RegionKind, Ty, TyKind};
 
 /// Returns the function's type parameters.
 #[tactic(auto, using(crate::proofs::ScopeLaws::verify_laws))]

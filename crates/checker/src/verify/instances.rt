@@ -19,7 +19,9 @@ use crate::types::{are_type_arguments, without_references};
 use crate::verify::formed::are_arguments_marked;
 use crate::verify::same;
 use checker_syntax::program::{DataType, Span};
-use type_terms::prelude::*;
+use tt_binder::Instantiate;
+use tt_interner::{InternedKind, InternedList, Interner};
+use tt_kinds::{AdtId, EarlyBinder, GenericArgs, Ty, TyKind};
 
 // Returns the written type of this number, instantiated with the arguments.
 #[tactic(auto, using(crate::proofs::ScopeLaws::verify_laws))]
