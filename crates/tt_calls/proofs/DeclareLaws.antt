@@ -5,6 +5,7 @@ use Rattle.tt_index.specs.declared.refusal.Refusal.{Refusal}
 use Rattle.tt_kinds.specs.Label.{Name, ItemLabel, fn_item, declaration_label}
 use Rattle.tt_kinds.specs.Tree.{Depth, Tree, Forest, node, none}
 use Rattle.tt_kinds.specs.Shape.{name_of, AreParts, fill, fill_all}
+use Rattle.tt_kinds.specs.Kinds.{tys_shape}
 use Rattle.tt_kinds.specs.Values.{declared_shapes, item_label}
 use Rattle.tt_kinds.specs.Declaration.{sort_of}
 use Rattle.tt_kinds.specs.declared.declaration.Declaration.{Declaration}
@@ -38,7 +39,7 @@ use Rattle.tt_calls.specs.declared.call.VariableCall.{VariableCall}
 use Rattle.tt_calls.specs.CallForm.{a_list, terms_at, part_positions, IsPartTooDeep, AreItemsTooDeep, HasNoTerms}
 use Rattle.tt_calls.specs.CallForm.{declared_sort, declared_item, declared_trees, declared_ids, declared_positions}
 use Rattle.tt_calls.specs.Build.{IsUnbuiltPart, no_memory, no_row, no_term, no_index, IsDeclaredBy, GivesDeclared}
-use Rattle.tt_calls.specs.Build.{IsSigOf, GivesSig}
+use Rattle.tt_calls.specs.Build.{IsVariableListOf, IsPartOfCall}
 use Rattle.tt_calls.proofs.PartLaws.{IsUnbuiltPart-weaker, AreTerms-second}
 use Rattle.tt_calls.specs.declared.answer.Answer.{Answer}
 use Rattle.tt_calls.specs.declared.answer.Answer.TheVariants as answer
@@ -94,13 +95,7 @@ types-unbuilt full e ps r h =
     let part = a_list TypeLists (terms_at Types ps) in
     IsUnbuiltPart-weaker full e e (part_positions part) (part_positions part) (IsPartTooDeep part) ⊥ r (λ a. a) (terms-shallow Types ps) h
 
--- a refusal of a part of a signature is the signature's
-pub sig-passed : (terms : Terms) (e : List Told) (vars : List VariableCall) (ps : List ℕ) (kind : FnSigKind) (result : Result (EarlyBinder (Binder FnSig)) Refusal) (r : Refusal)
-    → IsErrAnd result (λ x. x ≡ r) → IsUnbuiltPart (HasFullTable terms) e (part_positions (a_list TypeLists (terms_at Types ps))) ⊥ r → GivesSig terms e vars ps kind result
-sig-passed terms e vars ps kind (Ok s) r h u = absurd h
-sig-passed terms e vars ps kind (Err x) r h u = record { ok = tt; err = rw h u }
-
--- a refusal of the signature is the declaration's
+-- a refusal of a part of a signature is the declaration's
 pub declared-passed : (terms : Terms) (e : List Told) (call : DeclarationKindCall) (result : Result DeclarationKind Refusal) (r : Refusal)
     → IsErrAnd result (λ x. x ≡ r) → IsUnbuiltPart (HasFullTable terms) e (declared_positions call) ⊥ r → GivesDeclared terms e call result
 declared-passed terms e call (Ok s) r h u = absurd h
@@ -108,14 +103,15 @@ declared-passed terms e call (Err x) r h u = record { ok = tt; err = rw h u }
 
 -- a function of the signature
 pub sig-declared : (terms : Terms) (e : List Told) (vars : Vec VariableCall Global) (ts : SmallVec ℕ 4 Global) (kind : FnSigKind) (sig : EarlyBinder (Binder FnSig))
-    → IsSigOf terms e vars.items ts.items kind sig → IsDeclaredBy terms e (declares.Fn vars ts kind) (declared_kind.Fn sig)
+    → IsVariableListOf terms (number_at e) vars.items sig.value.bound_vars → IsPartOfCall terms e (a_list TypeLists (terms_at Types ts.items)) (tys_shape sig.value.value.inputs_and_output)
+    → sig.value.value.fn_sig_kind ≡ kind → IsDeclaredBy terms e (declares.Fn vars ts kind) (declared_kind.Fn sig)
 unfolding fill
-sig-declared terms e vars ts kind sig h = record {
+sig-declared terms e vars ts kind sig variables types other = record {
   sorted = refl;
-  item = ap fn_item h.other;
-  parts = (h.variables.in_range, (h.types.part, tt));
-  means = rw (h.variables.means, h.types.means) refl;
-  named = h.types.named;
+  item = ap fn_item other;
+  parts = (variables.in_range, (types.part, tt));
+  means = rw (variables.means, types.means) refl;
+  named = types.named;
 }
 
 -- what is no function has no terms

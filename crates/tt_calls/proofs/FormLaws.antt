@@ -1,5 +1,5 @@
 -- Kinds that are made of what was built are the ones that calls name, over plain variables.
-use Rattle.std.proofs.Common.{◌≡◌, ℕ, List, Option, refl, ap}
+use Rattle.std.proofs.Common.{◌≡◌, ℕ, List, Option, map, refl, ap}
 use Rattle.std.specs.Prelude.{IfSome}
 use Rattle.tt_index.specs.declared.refusal.Refusal.{Refusal}
 use Rattle.tt_kinds.specs.Label.{Name, VarKind, region_variable, type_variable, const_variable, Label, RecordLabel}
@@ -20,7 +20,8 @@ use Rattle.tt_calls.specs.declared.call.TyCall.{TyCall}
 use Rattle.tt_calls.specs.declared.call.TyCall.TheVariants as ty
 use Rattle.tt_calls.specs.declared.build.parts.Built.{Built}
 use Rattle.tt_calls.specs.CallForm.{Part, CallForm, param, bound, plain, under, trait_object, form_positions}
-use Rattle.tt_calls.specs.CallForm.{parts_positions, ArePartsTooDeep, IsFormTooDeep, ty_call_form}
+use Rattle.tt_calls.specs.CallForm.{parts_positions, ArePartsTooDeep, IsFormTooDeep, ty_call_form, variable_kind}
+use Rattle.tt_calls.specs.CallForm.{existential_record}
 use Rattle.tt_calls.specs.Told.{Told}
 use Rattle.tt_calls.specs.Means.{AreTerms}
 use Rattle.tt_calls.specs.Build.{IsKindOf, IsUnbuiltPart}
@@ -124,6 +125,16 @@ form-deep (bound s d x) h = absurd h
 form-deep (plain l ps) h = h
 form-deep (under l vs m ps) h = h
 form-deep (trait_object xs r) h = absurd h
+
+-- what a call for an existential predicate builds, as a form; ids has the number of the id at each position
+abbrev pub existential_whole : (ℕ → ℕ) → ExistentialCall → CallForm
+existential_whole ids x = under existential_label (map (variable_kind ids) x.vars.items)
+    (existential_record ids x.kind).label (existential_record ids x.kind).parts
+
+-- records of one shape have one shape under a binder too
+pub under-binder : (l : Label ℕ) (vars : ℕ) {s t : Shape} → s ≡ t
+    → shape.term l (shape.also (shape.binder vars s) shape.none) ≡ shape.term l (shape.also (shape.binder vars t) shape.none)
+under-binder l vars e = ap (λ (x : Shape). shape.term l (shape.also (shape.binder vars x) shape.none)) e
 
 -- the kind of this shape is of the form, if it is made of what was built
 pub made-kind : (terms : Terms) (e : List Told) (f : CallForm) (ps : List Part) (vs : Option (List (VarKind Name))) (text : Option Name) (b : Built) (s : Shape)

@@ -1,5 +1,6 @@
 -- The promises of the steps of a building call.
 use Rattle.std.specs.Prelude.{◌≡◌, ◌↔◌, ℕ, ◌<◌, List, [], map, Result, IfOk, IfErr, OnOk, Some, IsSome, IsSomeAnd}
+use Rattle.std.specs.Prelude.{Bool, IsTrue, Option, None, ⊤}
 use Rattle.tt_index.specs.declared.refusal.Refusal.{Refusal}
 use Rattle.tt_index.specs.declared.refusal.Refusal.TheVariants.{Memory, TableFull, GreatestIndex, NoSuchAnswer}
 use Rattle.tt_kinds.specs.Label.{var_list_label}
@@ -10,7 +11,7 @@ use Rattle.tt_kinds.specs.Bound.{region_name, var_kind}
 use Rattle.tt_kinds.specs.Shape.{Shape, Shapes, name_of, rename_region, rename_kind, IsNamed, IsNamedKind}
 use Rattle.tt_kinds.specs.Shape.{AreNamedKinds, fill, fill_all, item_shapes, IsPart, AreParts, HasParts}
 use Rattle.tt_kinds.specs.Shape as shape
-use Rattle.tt_kinds.specs.Kinds.{region_shape, arg_shape, clause_shape, tys_shape}
+use Rattle.tt_kinds.specs.Kinds.{region_shape, arg_shape, clause_shape}
 use Rattle.tt_kinds.specs.Declaration.{sort_of}
 use Rattle.tt_kinds.specs.Values.{declared_shapes, item_label}
 use Rattle.tt_kinds.specs.Handle.{Clause}
@@ -18,18 +19,16 @@ use Rattle.tt_kinds.specs.declared.region_kind.RegionKind.{RegionKind}
 use Rattle.tt_kinds.specs.declared.bound.BoundRegionKind.{BoundRegionKind}
 use Rattle.tt_kinds.specs.declared.bound.BoundVariableKind.{BoundVariableKind}
 use Rattle.tt_kinds.specs.Handle.{BoundVarKinds}
-use Rattle.tt_kinds.specs.declared.binder.Binder.{Binder}
-use Rattle.tt_kinds.specs.declared.binder.EarlyBinder.{EarlyBinder}
 use Rattle.tt_kinds.specs.declared.declaration.DeclarationKind.{DeclarationKind}
 use Rattle.tt_kinds.specs.declared.declaration.DeclarationSort.{DeclarationSort}
-use Rattle.tt_kinds.specs.declared.fn_sig.FnSig.{FnSig}
-use Rattle.tt_kinds.specs.declared.fn_sig.FnSigKind.{FnSigKind}
 use Rattle.tt_kinds.specs.declared.table.Table.{Table}
-use Rattle.tt_kinds.specs.declared.table.Table.TheVariants.{Types, TypeLists, VarLists}
+use Rattle.tt_kinds.specs.declared.table.Table.TheVariants.{VarLists}
 use Rattle.tt_interner.specs.Rows.{Row, size, meaning, AreClauses}
 use Rattle.tt_interner.specs.Stored.{Terms}
 use Rattle.tt_calls.specs.declared.answer.Answer.{Answer}
 use Rattle.tt_calls.specs.declared.answer.Answer.TheVariants as answer
+use Rattle.tt_calls.specs.declared.call.RegionCall.{RegionCall}
+use Rattle.tt_calls.specs.declared.call.RegionCall.TheVariants.{ReEarlyParam, ReBound, ReLateParam, RePlaceholder}
 use Rattle.tt_calls.specs.declared.call.RegionNameCall.{RegionNameCall}
 use Rattle.tt_calls.specs.declared.call.VariableCall.{VariableCall}
 use Rattle.tt_calls.specs.declared.call.ArgCall.{ArgCall}
@@ -40,7 +39,7 @@ use Rattle.tt_interner.specs.Arguments.{arguments}
 use Rattle.tt_kinds.specs.declared.generic_arg.GenericArgKind.{GenericArgKind}
 use Rattle.std.specs.declared.alloc.Global.{Global}
 use Rattle.std.specs.declared.vec.Vec.{Vec}
-use Rattle.tt_calls.specs.CallForm.{a_list, terms_at, declared_sort, declared_item, declared_trees}
+use Rattle.tt_calls.specs.CallForm.{an_id, any_id, declared_sort, declared_item, declared_trees}
 use Rattle.tt_calls.specs.CallForm.{declared_positions, of_id, CallForm, Named, Item, Part, called, variable_kind}
 use Rattle.tt_calls.specs.CallForm.{item_tree, items_trees, part_tree, call_parts_trees, item_positions}
 use Rattle.tt_calls.specs.CallForm.{items_positions, part_positions, parts_positions, IsItemTooDeep, AreItemsTooDeep}
@@ -68,6 +67,15 @@ IsIdAt earlier p s n = (rows : List Row) → id_at (told_all rows earlier) p ≡
 -- no id of this sort is at the position
 abbrev pub HasNoId : List Answer → ℕ → DeclarationSort → Type 0
 HasNoId earlier p s = (rows : List Row) → TellsWanted (told_all rows earlier) (of_id s) p → ⊥
+
+-- the position where an id is wanted, of a declaration of this sort if one is given
+abbrev pub wanted_id : Option DeclarationSort → ℕ → List Named
+wanted_id (Some s) p = an_id s p
+wanted_id None p = any_id p
+
+-- the truth value says whether each position tells the id that is wanted there
+pub record TellsIds (earlier : List Answer) (names : List Named) (b : Bool) : Type 0 where
+  pub tells : (rows : List Row) → IsTrue b ↔ AreTerms (told_all rows earlier) names
 
 -- both answers are handles of the same table
 abbrev pub AreOfOneTable : Answer → Answer → Type 0
@@ -148,6 +156,14 @@ pub record GivesVariables (terms : Terms) (ids : ℕ → ℕ) (calls : List Vari
     (result : Result BoundVarKinds Refusal) : Type 0 where
   pub ok : IfOk result (IsVariableListOf terms ids calls)
   pub err : IfErr result (IsUnbuiltPart (HasFullTable terms) [] [] ⊥)
+
+-- the call has a place for a name of the region
+abbrev pub MayNameRegion : RegionCall → Type 0
+MayNameRegion (ReEarlyParam index name) = ⊤
+MayNameRegion (ReBound i var name) = ⊤
+MayNameRegion (ReLateParam p name) = ⊤
+MayNameRegion (RePlaceholder u var name) = ⊤
+MayNameRegion _ = ⊥
 
 -- the region has this tree, and the greatest index isn't needed (deep)
 pub record IsRegionOf (terms : Terms) (t : Tree Depth) (deep : Type 0) (r : RegionKind) : Type 0 where
@@ -293,21 +309,6 @@ pub record GivesDeclared (terms : Terms) (earlier : List Told) (call : Declarati
     (result : Result DeclarationKind Refusal) : Type 0 where
   pub ok : IfOk result (IsDeclaredBy terms earlier call)
   pub err : IfErr result (IsUnbuiltPart (HasFullTable terms) earlier (declared_positions call) ⊥)
-
--- the signature has these variables, the types at the positions, and these other parts
-pub record IsSigOf (terms : Terms) (earlier : List Told) (vars : List VariableCall) (positions : List ℕ)
-    (kind : FnSigKind) (sig : EarlyBinder (Binder FnSig)) : Type 0 where
-  pub variables : IsVariableListOf terms (number_at earlier) vars sig.value.bound_vars
-  pub types : IsPartOfCall terms earlier (a_list TypeLists (terms_at Types positions))
-      (tys_shape sig.value.value.inputs_and_output)
-  pub other : sig.value.value.fn_sig_kind ≡ kind
-
--- the result is the signature with these parts, or a refusal with a reason
-pub record GivesSig (terms : Terms) (earlier : List Told) (vars : List VariableCall) (positions : List ℕ)
-    (kind : FnSigKind) (result : Result (EarlyBinder (Binder FnSig)) Refusal) : Type 0 where
-  pub ok : IfOk result (IsSigOf terms earlier vars positions kind)
-  pub err : IfErr result (IsUnbuiltPart (HasFullTable terms) earlier
-      (part_positions (a_list TypeLists (terms_at Types positions))) ⊥)
 
 -- the result may be the call's answer, if the terms grow from the old ones to the new ones
 pub record MayAnswerCall (old new : Terms) (earlier : List Told) (call : Call) (result : Result Answer Refusal)

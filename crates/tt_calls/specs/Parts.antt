@@ -25,7 +25,6 @@ use Rattle.tt_kinds.specs.declared.table.TermTable.TheVariants as terms_of
 use Rattle.tt_interner.specs.Rows.{Row, text_row, size, meaning, IsNew, AreRows}
 use Rattle.tt_interner.specs.Stored.{Terms, most_in_place}
 use Rattle.tt_calls.specs.declared.call.VariableCall.{VariableCall}
-use Rattle.tt_calls.specs.declared.call.ExistentialCall.{ExistentialCall}
 use Rattle.tt_calls.specs.declared.build.parts.PartCall.{PartCall}
 use Rattle.tt_calls.specs.declared.build.parts.PartCall.TheVariants as part
 use Rattle.tt_calls.specs.declared.build.parts.PartsCall.{PartsCall}
@@ -33,7 +32,6 @@ use Rattle.tt_calls.specs.declared.build.parts.PartsCall.TheVariants as parts
 use Rattle.tt_calls.specs.declared.build.parts.Built.{Built}
 use Rattle.tt_calls.specs.CallForm.{Item, a_region, a_term, a_clause, Part, one, a_list, terms_at, args_part, CallForm}
 use Rattle.tt_calls.specs.CallForm.{param, bound, plain, under, trait_object, variable_kind, part_positions, parts_positions}
-use Rattle.tt_calls.specs.CallForm.{existential_record}
 use Rattle.tt_calls.specs.CallForm.{call_parts_trees, IsPartTooDeep, ArePartsTooDeep, AreShort, RecordCall}
 use Rattle.tt_calls.specs.Told.{Told, HasFullTable}
 use Rattle.tt_calls.specs.Means.{number_at, tree_at}
@@ -162,11 +160,6 @@ built_shape (under l vs m ps) b = shape.term (rename_label (λ _. b.name.number)
     (shape.also (shape.binder b.vars.number
     (shape.node (record_label (rename_record (λ _. b.name.number) m)) (parts_shapes b.parts))) shape.none)
 built_shape (trait_object xs r) b = shape.term predicate_label shape.none
-
--- what a call for an existential predicate builds, as a form; ids has the number of the id at each position
-abbrev pub existential_whole : (ℕ → ℕ) → ExistentialCall → CallForm
-existential_whole ids x = under existential_label (map (variable_kind ids) x.vars.items)
-    (existential_record ids x.kind).label (existential_record ids x.kind).parts
 
 -- the shape of the record that is made of what was built
 abbrev pub built_record : RecordCall → Built → Shape

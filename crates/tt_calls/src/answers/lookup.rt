@@ -1,6 +1,6 @@
 //! Earlier answers, by their positions.
 
-ghost use Rattle.std.specs.Prelude.{◌≡◌, ◌≤◌, IfOk, IfErr, None, List, take, length, MatchOption};
+ghost use Rattle.std.specs.Prelude.{◌≡◌, ◌≤◌, IfOk, IfErr, None, List, take, length};
 ghost use Rattle.tt_index.specs.declared.refusal.Refusal.TheVariants.{NoSuchAnswer};
 ghost use Rattle.tt_kinds.specs.Shape.{stored};
 ghost use Rattle.tt_interner.specs.Rows.{Row};
@@ -43,20 +43,15 @@ pub fn declared_at(
     ensures absent { IfErr result (λ e. HasNoId earlier.now position sort) }
 {
     let answer = answer_at(earlier, position)?;
-    match id_of_sort(answer, sort) {
-        Some(id) => Ok(id),
-        None => Err(Refusal::NoSuchAnswer),
-    }
-}
-
-// Returns the answer's id, or `None` if the answer is not an id of this sort.
-fn id_of_sort(answer: &Answer, sort: DeclarationSort) -> Option<DefId>
-    ensures { MatchOption result ((id : DefId) → answer.now ≡ Answer.Id sort id → ⊥) (λ id. answer.now
-        ≡ Answer.Id sort id) }
-{
     match answer {
-        Answer::Id(found, id) => { if *found == sort { Some(*id) } else { None } }
-        _ => None,
+        Answer::Id(found, id) => {
+            if *found == sort {
+                Ok(*id)
+            } else {
+                Err(Refusal::NoSuchAnswer)
+            }
+        }
+        _ => Err(Refusal::NoSuchAnswer),
     }
 }
 

@@ -17,18 +17,16 @@ ghost use Rattle.tt_calls.specs.CallForm.{
 };
 ghost use Rattle.tt_calls.specs.Told.{told_all, AreOwnedAnswers};
 ghost use Rattle.tt_calls.specs.Means.{number_at, AreTerms};
-ghost use Rattle.tt_calls.specs.Build.{MayAnswerCall, GivesDeclared, GivesSig};
+ghost use Rattle.tt_calls.specs.Build.{MayAnswerCall, GivesDeclared};
 
 use crate::answer::Answer;
 use crate::answers::lookup::declared_at;
 use crate::build::lists::build_tys;
 use crate::build::regions::build_vars;
-use crate::call::{DeclarationKindCall, DeclareCall, VariableCall};
+use crate::call::{DeclarationKindCall, DeclareCall};
 use tt_index::Refusal;
 use tt_interner::Interner;
-use tt_kinds::{
-    Binder, DeclarationKind, DeclarationSort, EarlyBinder, FnSig, FnSigKind, ImplId, TraitId,
-};
+use tt_kinds::{Binder, DeclarationKind, DeclarationSort, EarlyBinder, FnSig, ImplId, TraitId};
 
 /// Makes the declaration of the call from the earlier answers, and returns its id. The ids that the variables of a
 /// function's signature name have to be there; [`call_is_declared`](crate::answers::ids::call_is_declared) tests this.
@@ -64,45 +62,16 @@ fn declared_kind(
             inputs_and_output,
             fn_sig_kind,
         } => {
-            let vars = vars.as_slice();
-            let sig = declared_sig(
-                cx,
-                earlier,
-                vars,
-                inputs_and_output.as_slice(),
-                *fn_sig_kind,
-            )?;
-            Ok(DeclarationKind::Fn(sig))
+            let inputs_and_output = build_tys(cx, earlier, inputs_and_output.as_slice())?;
+            let vars = build_vars(cx, earlier, vars.as_slice())?;
+            let sig = FnSig {
+                inputs_and_output,
+                fn_sig_kind: *fn_sig_kind,
+            };
+            Ok(DeclarationKind::Fn(EarlyBinder::bind(Binder::bind_with_vars(sig, vars))))
         }
         _ => item_kind(earlier, call),
     }
-}
-
-// Returns the signature of a function.
-fn declared_sig(
-    cx: &mut Interner,
-    earlier: &[Answer],
-    vars: &[VariableCall],
-    inputs_and_output: &[u32],
-    fn_sig_kind: FnSigKind,
-) -> Result<EarlyBinder<Binder<FnSig>>, Refusal>
-    requires { AreOwnedAnswers cx.old.rows earlier.now }
-    ensures extends { Extends cx.old cx.new }
-    ensures sig { GivesSig
-        cx.new
-        (told_all cx.old.rows earlier.now)
-        vars.now
-        inputs_and_output.now
-        fn_sig_kind
-        result }
-{
-    let inputs_and_output = build_tys(cx, earlier, inputs_and_output)?;
-    let vars = build_vars(cx, earlier, vars)?;
-    let sig = FnSig {
-        inputs_and_output,
-        fn_sig_kind,
-    };
-    Ok(EarlyBinder::bind(Binder::bind_with_vars(sig, vars)))
 }
 
 // Returns what the call declares, which has no terms.

@@ -3,7 +3,7 @@
 ghost use Rattle.std.specs.Prelude.{◌≡◌, ◌≤◌, ℕ, map, take, length, IfErr};
 ghost use Rattle.tt_kinds.specs.Shape.{item_shapes};
 ghost use Rattle.tt_kinds.specs.Kinds.{existential_form, record_shape, ty_kind_shape, existential_shape};
-ghost use Rattle.tt_kinds.specs.Kinds.{existentials_shape, existential_kind_shape};
+ghost use Rattle.tt_kinds.specs.Kinds.{existentials_shape};
 ghost use Rattle.tt_interner.specs.Stored.{Terms, Extends};
 ghost use Rattle.tt_calls.specs.CallForm.{
   existential_call_form,
@@ -25,12 +25,9 @@ ghost use Rattle.tt_calls.specs.Parts.{
   any_ids,
   named_parts,
   record_text,
-  existential_whole,
   built_record,
-  built_shape,
   AreOfSorts,
   IsInnerLabel,
-  IsKindForm,
 };
 
 use crate::answer::Answer;
@@ -166,7 +163,10 @@ fn build_existential(
 {
     let vars = Some(call.vars.as_slice());
     match build(cx, earlier, existential_parts(&call.kind), vars, None) {
-        Ok(built) => cx.mk_existential(bound_kind(earlier, call, &built)),
+        Ok(built) => {
+            let kind = existential_kind(earlier, &call.kind, &built);
+            cx.mk_existential(Binder::bind_with_vars(kind, built.vars))
+        }
         Err(refusal) => Err(refusal),
     }
 }
@@ -183,21 +183,6 @@ fn existential_parts<'a>(call: &'a ExistentialKindCall) -> PartsCall<'a>
         }
         ExistentialKindCall::AutoTrait(_) => PartsCall::None,
     }
-}
-
-// Returns the kind of the existential predicate under its binder, made of what was built.
-fn bound_kind(
-    earlier: &[Answer],
-    call: &ExistentialCall,
-    built: &Built,
-) -> Binder<ExistentialPredicate>
-    requires { AreOfSorts (existential_record any_ids call.now.kind).parts built.now.parts }
-    ensures kind { (terms : Terms) → existential_kind_shape result
-        ≡ built_shape (existential_whole (number_at (told_all terms.rows earlier.now)) call.now) built.now }
-    ensures form { (ids : ℕ → ℕ) → IsKindForm (existential_whole ids call.now) }
-{
-    let kind = existential_kind(earlier, &call.kind, built);
-    Binder::bind_with_vars(kind, built.vars)
 }
 
 // Returns the kind of the existential predicate, made of what was built.

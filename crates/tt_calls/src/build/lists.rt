@@ -2,13 +2,10 @@
 
 ghost use Rattle.std.specs.Prelude.{◌≡◌, ◌≤◌, take, length, [], IsOk, IfErr, OnOk};
 ghost use Rattle.tt_index.specs.declared.refusal.Refusal.TheVariants.{GreatestIndex};
-ghost use Rattle.tt_kinds.specs.Bound.{depth};
-ghost use Rattle.tt_kinds.specs.Shape.{IsGreatest};
 ghost use Rattle.tt_kinds.specs.Kinds.{tys_shape, consts_shape, pats_shape, arg_shape, args_shape};
 ghost use Rattle.tt_interner.specs.Stored.{Extends};
 ghost use Rattle.tt_calls.specs.CallForm.{
   a_list,
-  a_term,
   arg_item,
   arg_items,
   args_part,
@@ -26,14 +23,13 @@ ghost use Rattle.tt_calls.specs.Room.{PartNeedsRoom};
 
 use crate::answer::Answer;
 use crate::answers::lookup::{fill_handles, handle_at, handles_at};
-use crate::answers::term_handle::TermHandle;
 use crate::build::regions::build_region;
 use crate::call::{ArgCall, RegionCall};
-use tt_index::{BoundVar, Refusal};
+use tt_index::Refusal;
 use tt_interner::Interner;
 use tt_kinds::{
-    BoundRegion, BoundRegionKind, BoundVarIndexKind, Const, Consts, GenericArg, GenericArgs, Pat,
-    PatList, Region, RegionKind, Table, Ty, Tys,
+    BoundRegion, BoundRegionKind, Const, Consts, GenericArg, GenericArgs, Pat, PatList, Region,
+    RegionKind, Table, Ty, Tys,
 };
 
 /// The greatest number of items of a list that are collected without an allocation.
@@ -238,34 +234,16 @@ fn check_arg(cx: &Interner, earlier: &[Answer], arg: &ArgCall) -> Result<(), Ref
         (IsItemTooDeep (arg_item arg.now))) }
 {
     match arg {
-        ArgCall::Type(position) => check_handle::<Ty>(cx, earlier, *position),
-        ArgCall::Const(position) => check_handle::<Const>(cx, earlier, *position),
+        ArgCall::Type(position) => {
+            handle_at::<Ty>(earlier, *position)?;
+            Ok(())
+        }
+        ArgCall::Const(position) => {
+            handle_at::<Const>(earlier, *position)?;
+            Ok(())
+        }
         ArgCall::Lifetime(region) => check_region(region),
     }
-}
-
-// Checks that a handle of `T`'s table is at the position.
-fn check_handle<T: TermHandle>(
-    cx: &Interner,
-    earlier: &[Answer],
-    position: u32,
-) -> Result<(), Refusal>
-    requires { AreOwnedAnswers cx.now.rows earlier.now }
-    ensures ok { OnOk
-        result
-        (IsUsable
-        (told_all cx.now.rows earlier.now)
-        (item_positions (a_term T.table position))
-        ⊥) }
-    ensures err { IfErr
-        result
-        (IsUnusable
-        (told_all cx.now.rows earlier.now)
-        (item_positions (a_term T.table position))
-        ⊥) }
-{
-    handle_at::<T>(earlier, position)?;
-    Ok(())
 }
 
 // Checks that the region's index, if the region is bound, is below the greatest.
@@ -274,17 +252,11 @@ fn check_region(region: &RegionCall) -> Result<(), Refusal>
     ensures err { IfErr result (λ e. (e ≡ GreatestIndex) × IsRegionTooDeep region.now) }
 {
     match region {
-        RegionCall::ReBound(index, var, _) => check_index(*index, *var),
+        RegionCall::ReBound(index, var, _) => {
+            let kind = BoundRegionKind::Anon;
+            Region::new(RegionKind::ReBound(*index, BoundRegion { var: *var, kind }))?;
+            Ok(())
+        }
         _ => Ok(()),
     }
-}
-
-// Checks that a region can be bound at the index.
-fn check_index(index: BoundVarIndexKind, var: BoundVar) -> Result<(), Refusal>
-    ensures ok { OnOk result (IsGreatest (depth index) → ⊥) }
-    ensures err { IfErr result (λ e. (e ≡ GreatestIndex) × IsGreatest (depth index)) }
-{
-    let kind = BoundRegionKind::Anon;
-    Region::new(RegionKind::ReBound(index, BoundRegion { var, kind }))?;
-    Ok(())
 }

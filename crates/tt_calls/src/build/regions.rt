@@ -1,25 +1,14 @@
 //! Building regions and binders' variables.
 
 ghost use Rattle.std.specs.Prelude.{◌≡◌, ◌≤◌, IfErr, map, take, length, List, OnErr};
-ghost use Rattle.tt_kinds.specs.Tree as tree;
-ghost use Rattle.tt_kinds.specs.Label.{
-  region_sort,
-  late_param_region,
-  placeholder_region,
-};
-ghost use Rattle.tt_kinds.specs.Bound.{depth};
-ghost use Rattle.tt_kinds.specs.Shape.{IsGreatest};
-ghost use Rattle.tt_interner.specs.Rows.{Row, text_row, IsNew};
+ghost use Rattle.tt_interner.specs.Rows.{Row};
 ghost use Rattle.tt_interner.specs.Stored.{Extends};
 ghost use Rattle.tt_calls.specs.CallForm.{
   name_text,
   region_text,
   variable_name_text,
-  param,
-  called,
   ty_called,
   variable_kind,
-  region_call_entry,
   region_call_tree,
   IsRegionTooDeep,
 };
@@ -31,6 +20,7 @@ ghost use Rattle.tt_calls.specs.Build.{
   GivesVariables,
   GivesRegion,
   FillsVariables,
+  MayNameRegion,
 };
 ghost use Rattle.tt_calls.specs.Room.{IsRefusalForRoom, LacksText, VarsNeedRoom};
 
@@ -38,11 +28,11 @@ use crate::answer::Answer;
 use crate::answers::ids::def_at;
 use crate::build::lists::MOST_IN_PLACE;
 use crate::call::{BoundTyKindCall, RegionCall, RegionNameCall, VariableCall};
-use tt_index::{BoundVar, Refusal, UniverseIndex};
+use tt_index::Refusal;
 use tt_interner::Interner;
 use tt_kinds::{
-    BoundRegion, BoundRegionKind, BoundTyKind, BoundVarIndexKind, BoundVarKinds, BoundVariableKind,
-    EarlyParamRegion, LateParamRegion, Placeholder, Region, RegionKind,
+    BoundRegion, BoundRegionKind, BoundTyKind, BoundVarKinds, BoundVariableKind, EarlyParamRegion,
+    LateParamRegion, Placeholder, Region, RegionKind,
 };
 
 /// Returns the name of a bound type.
@@ -157,85 +147,57 @@ pub fn build_region(
     ensures room { IfErr result (λ e. IsRefusalForRoom e → LacksText cx.new.rows (region_text call.now)) }
 {
     match call {
-        RegionCall::ReEarlyParam { index, name } => build_early_param(cx, *index, name.as_str()),
-        RegionCall::ReBound(index, var, name) => build_bound(cx, earlier, *index, *var, name),
-        RegionCall::ReLateParam(scope, name) => build_late_param(cx, earlier, *scope, name),
         RegionCall::ReStatic => Region::new(RegionKind::ReStatic),
         RegionCall::ReVar(variable) => Region::new(RegionKind::ReVar(*variable)),
-        RegionCall::RePlaceholder(universe, var, name) => {
-            build_placeholder(cx, earlier, *universe, *var, name)
-        }
         RegionCall::ReErased => Region::new(RegionKind::ReErased),
         RegionCall::ReError(token) => Region::new(RegionKind::ReError(*token)),
+        RegionCall::ReEarlyParam { .. }
+        | RegionCall::ReBound(_, _, _)
+        | RegionCall::ReLateParam(_, _)
+        | RegionCall::RePlaceholder(_, _, _) => build_named_region(cx, earlier, call),
     }
 }
 
-// Returns the region parameter of the call.
-fn build_early_param(cx: &mut Interner, index: u32, name: &str) -> Result<Region, Refusal>
-    ensures extends { Extends cx.old cx.new }
-    ensures region { GivesRegion cx.new (tree.param region_sort index name.now) ⊥ result }
-    ensures room { OnErr result (IsNew (text_row name.now) cx.new.rows) }
-{
-    let name = cx.symbol(name)?;
-    Region::new(RegionKind::ReEarlyParam(EarlyParamRegion { index, name }))
-}
-
-// Returns the region parameter of the call, seen from inside its item.
-fn build_late_param(
+// Returns the region that the call names, if the call has a place for a name of the region.
+#[inline(never)]
+fn build_named_region(
     cx: &mut Interner,
     earlier: &[Answer],
-    scope: u32,
-    name: &RegionNameCall,
+    call: &RegionCall,
 ) -> Result<Region, Refusal>
+    requires { MayNameRegion call.now }
     ensures extends { Extends cx.old cx.new }
     ensures region { (rows : List Row) → GivesRegion cx.new
-        (tree.region (late_param_region
-        (number_at (told_all rows earlier.now) scope)
-        (called (number_at (told_all rows earlier.now)) name.now)))
-        ⊥
+        (region_call_tree (number_at (told_all rows earlier.now)) call.now)
+        (IsRegionTooDeep call.now)
         result }
-    ensures room { OnErr result (LacksText cx.new.rows (name_text name.now)) }
+    ensures room { IfErr result (λ e. IsRefusalForRoom e → LacksText cx.new.rows (region_text call.now)) }
 {
-    let kind = build_name(cx, earlier, name)?;
-    let scope = def_at(earlier, scope);
-    Region::new(RegionKind::ReLateParam(LateParamRegion { scope, kind }))
-}
-
-// Returns the placeholder region of the call.
-fn build_placeholder(
-    cx: &mut Interner,
-    earlier: &[Answer],
-    universe: UniverseIndex,
-    var: BoundVar,
-    name: &RegionNameCall,
-) -> Result<Region, Refusal>
-    ensures extends { Extends cx.old cx.new }
-    ensures region { (rows : List Row) → GivesRegion cx.new
-        (tree.region (placeholder_region universe var (called (number_at (told_all rows earlier.now)) name.now)))
-        ⊥
-        result }
-    ensures room { OnErr result (LacksText cx.new.rows (name_text name.now)) }
-{
-    let kind = build_name(cx, earlier, name)?;
-    let bound = BoundRegion { var, kind };
-    Region::new(RegionKind::RePlaceholder(Placeholder { universe, bound }))
-}
-
-// Returns the bound region of the call.
-fn build_bound(
-    cx: &mut Interner,
-    earlier: &[Answer],
-    index: BoundVarIndexKind,
-    var: BoundVar,
-    name: &RegionNameCall,
-) -> Result<Region, Refusal>
-    ensures extends { Extends cx.old cx.new }
-    ensures region { (rows : List Row) → GivesRegion cx.new
-        (tree.bound region_sort (depth index) (region_call_entry (number_at (told_all rows earlier.now)) var name.now))
-        (IsGreatest (depth index))
-        result }
-    ensures room { IfErr result (λ e. IsRefusalForRoom e → LacksText cx.new.rows (name_text name.now)) }
-{
-    let kind = build_name(cx, earlier, name)?;
-    Region::new(RegionKind::ReBound(index, BoundRegion { var, kind }))
+    match call {
+        RegionCall::ReEarlyParam { index, name } => {
+            let index = *index;
+            let name = cx.symbol(name.as_str())?;
+            Region::new(RegionKind::ReEarlyParam(EarlyParamRegion { index, name }))
+        }
+        RegionCall::ReBound(index, var, name) => {
+            let var = *var;
+            let kind = build_name(cx, earlier, name)?;
+            Region::new(RegionKind::ReBound(*index, BoundRegion { var, kind }))
+        }
+        RegionCall::ReLateParam(scope, name) => {
+            let kind = build_name(cx, earlier, name)?;
+            let scope = def_at(earlier, *scope);
+            Region::new(RegionKind::ReLateParam(LateParamRegion { scope, kind }))
+        }
+        RegionCall::RePlaceholder(universe, var, name) => {
+            let (universe, var) = (*universe, *var);
+            let kind = build_name(cx, earlier, name)?;
+            let bound = BoundRegion { var, kind };
+            Region::new(RegionKind::RePlaceholder(Placeholder { universe, bound }))
+        }
+        RegionCall::ReStatic
+        | RegionCall::ReVar(_)
+        | RegionCall::ReErased
+        | RegionCall::ReError(_) => unreachable!(),
+    }
 }

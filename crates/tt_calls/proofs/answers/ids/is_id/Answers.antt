@@ -1,9 +1,10 @@
-use Rattle.tt_calls.specs.Told.{told_all}
-use Rattle.tt_calls.proofs.IdLaws.{sort-told, no-sort-told}
+use Rattle.tt_calls.proofs.IdLaws.{sort-told, any-told}
 use Rattle.tt_calls.proofs.answers.ids.is_id.Goals as goal
 
-pub returns-in-Ok : goal.returns-in-Ok
-returns-in-Ok c = λ rows. sort-told (told_all rows c.args.earlier.now) c.args.position c.args.sort _ (c.in-Ok.ensures.ok rows)
+pub returns-in-Some : goal.returns-in-Some
+returns-in-Some c =
+    let found = c.declared_at in
+    rw (c.in-Some.is, c.is_ok.ensures.value) (sort-told c.args.earlier.now c.args.position c.in-Some.sort found.result found.ensures.ok found.ensures.absent)
 
-pub returns-in-Err : goal.returns-in-Err
-returns-in-Err c = λ rows. no-sort-told (told_all rows c.args.earlier.now) c.args.position c.args.sort (c.in-Err.ensures.absent rows)
+pub returns-in-None : goal.returns-in-None
+returns-in-None c = rw (c.in-None.is, c.is_some.ensures) (any-told c.args.earlier.now c.args.position c.id_at.result c.id_at.ensures)

@@ -1,10 +1,12 @@
+use Rattle.tt_calls.specs.CallForm.{any_id, name_ids}
+use Rattle.tt_calls.proofs.IdLaws.{both-told, first-untold}
 use Rattle.tt_calls.proofs.answers.ids.region_is_declared.Goals as goal
 
-pub returns-in-ReBound : goal.returns-in-ReBound
-returns-in-ReBound c = λ rows. rw (c.in-ReBound.is) (c.region_name_is_declared.ensures rows)
+pub returns-then-is_id : goal.returns-then-is_id
+returns-then-is_id c =
+    rw c.in-ReLateParam.is
+    (both-told c.args.earlier.now (any_id c.in-ReLateParam.scope) (name_ids c.in-ReLateParam.name) _ _ c.if-is_id.true c.is_id.ensures c.region_name_is_declared.ensures)
 
-pub returns-in-ReLateParam : goal.returns-in-ReLateParam
-returns-in-ReLateParam c = λ rows. rw (c.in-ReLateParam.is) (c.late_parameter_is_declared.ensures rows)
-
-pub returns-in-RePlaceholder : goal.returns-in-RePlaceholder
-returns-in-RePlaceholder c = λ rows. rw (c.in-RePlaceholder.is) (c.region_name_is_declared-in-RePlaceholder.ensures rows)
+pub returns-else-is_id : goal.returns-else-is_id
+returns-else-is_id c =
+    rw c.in-ReLateParam.is (first-untold c.args.earlier.now (any_id c.in-ReLateParam.scope) (name_ids c.in-ReLateParam.name) _ c.if-is_id.false c.is_id.ensures)

@@ -4,14 +4,6 @@ use Rattle.tt_kinds.specs.declared.region_kind.RegionKind.TheVariants.{ReStatic,
 use Rattle.tt_calls.proofs.BuildLaws.{region-shallow}
 use Rattle.tt_calls.proofs.build.regions.build_region.Goals as goal
 
-pub returns-in-ReEarlyParam-clause-region : goal.returns-in-ReEarlyParam-clause-region
-returns-in-ReEarlyParam-clause-region c =
-    rw (c.in-ReEarlyParam.is) (λ rows. rw (← c.as_str.ensures.value) c.build_early_param.ensures.region)
-
-pub returns-in-ReBound-clause-region : goal.returns-in-ReBound-clause-region
-returns-in-ReBound-clause-region c =
-    rw (c.in-ReBound.is) c.build_bound.ensures.region
-
 pub returns-in-ReStatic-clause-region : goal.returns-in-ReStatic-clause-region
 unfolding fill
 returns-in-ReStatic-clause-region c =
@@ -31,9 +23,3 @@ pub returns-in-ReError-clause-region : goal.returns-in-ReError-clause-region
 unfolding fill
 returns-in-ReError-clause-region c =
     rw (c.in-ReError.is) (λ rows. region-shallow c.args.cx.now (ReError c.in-ReError.token) _ ⊥ c.new-in-ReError.result c.new-in-ReError.ensures.ok tt (λ d. d) tt refl)
-
-pub returns-in-ReLateParam-clause-region : goal.returns-in-ReLateParam-clause-region
-returns-in-ReLateParam-clause-region c = rw (c.in-ReLateParam.is) c.build_late_param.ensures.region
-
-pub returns-in-RePlaceholder-clause-region : goal.returns-in-RePlaceholder-clause-region
-returns-in-RePlaceholder-clause-region c = rw (c.in-RePlaceholder.is) c.build_placeholder.ensures.region
