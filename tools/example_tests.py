@@ -1,6 +1,6 @@
 #!/usr/bin/env python3
-"""Prints a module of tests: one for each script and each program of examples/, which has to print what is in the file beside
-it, and one for each file of small programs (bin/programs), without the large ones, which take long without optimization. Wrong
+"""Prints a module of tests: one for each script, program and text of examples/, which has to print what is in the file beside it,
+and one for each file of small programs (bin/programs), without the large ones, which take long without optimization. Wrong
 programs of the checker have one more, for what is said of them to people."""
 
 import glob
@@ -9,10 +9,10 @@ import sys
 
 sys.dont_write_bytecode = True
 from edits import TOP
-from programs import files, programs_of
+from programs import files, programs_of, wrong_texts
 
 HEAD = """\
-//! The scripts and programs of examples/.
+//! The scripts, programs and texts of examples/.
 
 use checker::{Verdict, View, rendered, run, verdict_of};
 use std::alloc::Global;
@@ -25,6 +25,17 @@ fn are_checked(rt: &impl Abort, alloc: Global, programs: &[(u64, &str, &str)]) -
     for (line, source, printed) in programs {
         let mut output = Vec::new(alloc);
         run(alloc, source.as_bytes(), &mut output)?;
+        let output = String::from_utf8_lossy(alloc, output.as_slice())?;
+        assert_eq!(rt; output.as_str(), *printed, "line {line}");
+    }
+    Ok(())
+}
+
+// Asserts that the solver prints this for each source, which is at this line of its file.
+fn are_answered(rt: &impl Abort, alloc: Global, programs: &[(u64, &str, &str)]) -> Result<(), Fail> {
+    for (line, source, printed) in programs {
+        let mut output = Vec::new(alloc);
+        solver_programs::run(alloc, source.as_bytes(), &mut output)?;
         let output = String::from_utf8_lossy(alloc, output.as_slice())?;
         assert_eq!(rt; output.as_str(), *printed, "line {line}");
     }
@@ -73,11 +84,18 @@ fn {name}_reported(rt: HostRuntime) -> Result<(), Fail> {{
 PROGRAMS = """
 #[test]
 fn programs_{name}(rt: HostRuntime) -> Result<(), Fail> {{
-    are_checked(&rt, rt.alloc(), [
+    {call}(&rt, rt.alloc(), [
 {rows}
     ].as_slice())
 }}
 """
+# The call that runs each kind of example
+CALLS = {
+    "*.terms": "run_script",
+    "worked/*.terms": "run_script",
+    "checker/*.lang": "run",
+    "solver/*.goals": "solver_programs::run",
+}
 # The most characters of a source that isn't large
 LARGEST = 1000
 
@@ -106,23 +124,23 @@ def report_test(path):
     return REPORT.format(name=name, file=quoted(file), source=quoted(text_of(path)), said=quoted(said))
 
 
-def programs_test(path):
-    """Returns the test of a file of small programs."""
+def programs_test(path, call):
+    """Returns the test of a file of small programs, by the function that runs them."""
     small = [it for it in programs_of(path) if len(it.source) <= LARGEST and "…" not in it.printed]
     rows = "\n".join(f"        ({it.line}, {quoted(it.source)}, {quoted(it.printed)})," for it in small)
-    return PROGRAMS.format(name=os.path.basename(path).partition(".")[0], rows=rows)
+    return PROGRAMS.format(name=os.path.basename(path).partition(".")[0], call=call, rows=rows)
 
 
 def main():
     print(HEAD, end="")
-    for pattern, call in ("*.terms", "run_script"), ("worked/*.terms", "run_script"), ("checker/*.lang", "run"):
+    for pattern, call in CALLS.items():
         for path in sorted(glob.glob(f"{TOP}/examples/{pattern}")):
             name = os.path.relpath(path, f"{TOP}/examples").partition(".")[0].replace("/", "_")
             print(TEST.format(name=name, call=call, source=literal(path), printed=literal(f"{path}.stdout")), end="")
     for path in sorted(glob.glob(f"{TOP}/examples/checker/*.lang.report")):
         print(report_test(path[: -len(".report")]), end="")
-    for path in files():
-        print(programs_test(path), end="")
+    for path, call in [(it, "are_checked") for it in files()] + [(it, "are_answered") for it in wrong_texts()]:
+        print(programs_test(path, call), end="")
     return 0
 
 

@@ -1,4 +1,5 @@
-"""Reads files of small programs, each with what the checker prints for it. bin/programs says how they are written."""
+"""Reads the programs of the checker and the texts of the solver, with what is printed for each. bin/programs says how they are
+written."""
 
 import collections
 import glob
@@ -8,6 +9,8 @@ import sys
 
 from edits import TOP
 
+CLAIM = re.compile(r"//= (.*?) *$")
+ANSWER = re.compile(r"<stdin>:(\d+):\d+: (.*)")
 REPEATED = re.compile(r"«(\d+) ([^»]*)»")
 
 # A program: the line in its file where it begins, its source, and what is printed for it
@@ -15,13 +18,40 @@ Program = collections.namedtuple("Program", "line source printed")
 
 
 def files():
-    """Returns the paths of the files of programs."""
+    """Returns the paths of the files of the checker's programs."""
     return sorted(glob.glob(f"{TOP}/examples/checker/programs/*.txt"))
+
+
+def wrong_texts():
+    """Returns the paths of the files of the solver's wrong texts."""
+    return sorted(glob.glob(f"{TOP}/examples/solver/*.txt"))
 
 
 def examples():
     """Returns the paths of the programs that have a file each."""
     return sorted(glob.glob(f"{TOP}/examples/checker/*.lang"))
+
+
+def goals():
+    """Returns the paths of the solver's texts."""
+    return sorted(glob.glob(f"{TOP}/examples/solver/*.goals"))
+
+
+def lines_of(path):
+    """Returns the lines of a file."""
+    with open(path, encoding="utf-8", newline="") as it:
+        return it.read().split("\n")
+
+
+def claimed(path):
+    """Returns the answer in the comment behind each goal of a text, by its line."""
+    found = ((number, CLAIM.search(line)) for number, line in enumerate(lines_of(path), 1))
+    return {number: it[1] for number, it in found if it}
+
+
+def answered(path):
+    """Returns the answer to each goal in an output, by its line."""
+    return {int(it[1]): it[2] for it in map(ANSWER.fullmatch, lines_of(path)) if it}
 
 
 def repeated(text):
@@ -40,8 +70,7 @@ def program(path, number, lines):
 
 def programs_of(path):
     """Returns the programs of a file, in order."""
-    with open(path, encoding="utf-8", newline="") as it:
-        lines = it.read().split("\n")
+    lines = lines_of(path)
     begins = [at for at, line in enumerate(lines) if line == "===" or line.startswith("=== ")]
     return [program(path, at + 2, lines[at + 1 : end]) for at, end in zip(begins, begins[1:] + [len(lines)])]
 

@@ -48,6 +48,7 @@ pub enum Routine {
     TypesAreUnified,
     /// A log follows from two implementations.
     DerivationsAreChecked,
+    DerivationsAreFound,
     /// Each call declares its sort by its name, and once more by another id.
     SortsAreDeclared,
     /// A parameter, a reference and a tuple are what the call for all types builds.
@@ -86,6 +87,7 @@ impl Routine {
             "variables_are_validated" => Some(Routine::VariablesAreValidated),
             "types_are_unified" => Some(Routine::TypesAreUnified),
             "derivations_are_checked" => Some(Routine::DerivationsAreChecked),
+            "derivations_are_found" => Some(Routine::DerivationsAreFound),
             "sorts_are_declared" => Some(Routine::SortsAreDeclared),
             "types_are_built" => Some(Routine::TypesAreBuilt),
             "assumptions_are_folded" => Some(Routine::AssumptionsAreFolded),
@@ -116,6 +118,7 @@ impl Routine {
             Routine::VariablesAreValidated => validation::variables_are_validated(cx),
             Routine::TypesAreUnified => unification::types_are_unified(cx),
             Routine::DerivationsAreChecked => derivations::derivations_are_checked(cx),
+            Routine::DerivationsAreFound => derivations::derivations_are_found(cx),
             Routine::SortsAreDeclared => declared::sorts_are_declared(cx),
             Routine::TypesAreBuilt => built::types_are_built(cx),
             Routine::AssumptionsAreFolded => built::assumptions_are_folded(cx),

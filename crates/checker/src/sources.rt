@@ -2,12 +2,12 @@
 
 use crate::failure::Failure;
 use crate::programs::{check, mistakes, variables};
-use crate::report::{Extent, Report};
 use crate::wording::report_of;
 use checker_syntax::message::Message;
 use checker_syntax::program::Program;
 use checker_syntax::read_leniently;
 use checker_syntax::syntax_error::SyntaxError;
+use reports::{Extent, Report};
 use std::alloc::{AllocError, Global};
 use std::io;
 use std::io::{Read, Write};

@@ -3,10 +3,10 @@
 use crate::failure::Failure;
 use crate::lookup::name_of;
 use crate::mistake::{Cause, Clash, Item, Mistake, Origin, Pair};
-use crate::report::{Extent, Note, Report};
 use crate::type_text::{item_name, text_of};
 use checker_syntax::message::Message;
 use checker_syntax::program::{DataType, Function, Place, Program};
+use reports::{Extent, Note, Report};
 use tt_interner::Interner;
 use tt_kinds::Ty;
 

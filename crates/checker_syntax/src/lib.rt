@@ -2,18 +2,20 @@
 //!
 //! [`read`] turns a source into a [`Program`](program::Program), in which each name is resolved and each type and
 //! expression numbered. Types are read, but not checked. [`read_leniently`] goes on where a body is wrong.
+//!
+//! The tokens are for readers of other languages too.
 #![tactic(auto)]
 
 mod bodies;
 mod declarations;
 mod items;
-mod lexer;
+pub mod lexer;
 pub mod message;
-mod names;
+pub mod names;
 pub mod program;
 pub mod syntax_error;
-mod token;
-mod tokens;
+pub mod token;
+pub mod tokens;
 mod types;
 
 use crate::bodies::BodyReader;

@@ -23,7 +23,7 @@ impl fmt::Display for Message {
 }
 
 /// Returns the error with this text at the place, or [`SyntaxError::Memory`] if memory was refused for the text.
-pub(crate) fn wrong(place: Place, text: Result<String, AllocError>) -> SyntaxError {
+pub fn wrong(place: Place, text: Result<String, AllocError>) -> SyntaxError {
     match text {
         Ok(text) => SyntaxError::Wrong(Message { place, text }),
         Err(_) => SyntaxError::Memory,

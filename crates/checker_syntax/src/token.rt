@@ -22,6 +22,8 @@ pub enum TokenKind {
     CloseParen,
     OpenBrace,
     CloseBrace,
+    OpenBracket,
+    CloseBracket,
     Less,
     Greater,
     Comma,
@@ -31,6 +33,7 @@ pub enum TokenKind {
     Dot,
     Ampersand,
     Star,
+    Question,
     Arrow,
     /// The end of the source.
     End,
@@ -65,6 +68,8 @@ impl TokenKind {
             ')' => Some(TokenKind::CloseParen),
             '{' => Some(TokenKind::OpenBrace),
             '}' => Some(TokenKind::CloseBrace),
+            '[' => Some(TokenKind::OpenBracket),
+            ']' => Some(TokenKind::CloseBracket),
             '<' => Some(TokenKind::Less),
             '>' => Some(TokenKind::Greater),
             ',' => Some(TokenKind::Comma),
@@ -74,6 +79,7 @@ impl TokenKind {
             '.' => Some(TokenKind::Dot),
             '&' => Some(TokenKind::Ampersand),
             '*' => Some(TokenKind::Star),
+            '?' => Some(TokenKind::Question),
             _ => None,
         }
     }
@@ -94,6 +100,8 @@ impl TokenKind {
             TokenKind::CloseParen => "`)`",
             TokenKind::OpenBrace => "`{`",
             TokenKind::CloseBrace => "`}`",
+            TokenKind::OpenBracket => "`[`",
+            TokenKind::CloseBracket => "`]`",
             TokenKind::Less => "`<`",
             TokenKind::Greater => "`>`",
             TokenKind::Comma => "`,`",
@@ -103,6 +111,7 @@ impl TokenKind {
             TokenKind::Dot => "`.`",
             TokenKind::Ampersand => "`&`",
             TokenKind::Star => "`*`",
+            TokenKind::Question => "`?`",
             TokenKind::Arrow => "`->`",
             TokenKind::End => "the end of the program",
         }

@@ -1,4 +1,5 @@
 pub mod ArgumentLaws
+pub mod AnswerLaws
 pub mod AssignLaws
 pub mod ClosedLaws
 pub mod DerivationExamples
@@ -6,4 +7,5 @@ pub mod DerivationLaws
 pub mod LogLaws
 pub mod OutcomeLaws
 pub mod ProgramLaws
+pub mod SearchLaws
 pub mod WrittenLaws

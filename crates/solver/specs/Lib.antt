@@ -2,5 +2,6 @@ pub mod Answers
 pub mod Derivations
 pub mod Log
 pub mod Program
+pub mod Search
 pub mod Stable
 pub mod Written

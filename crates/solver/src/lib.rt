@@ -5,15 +5,21 @@
 #![tactic(auto)]
 
 mod arguments;
+mod candidates;
 pub mod fault;
+mod goals;
 mod instances;
 mod laws;
 pub mod log;
 pub mod program;
+mod resolved;
+mod search;
+pub mod solver;
 mod verifier;
 
 pub use fault::Fault;
 pub use laws::law_derivations_are_stable;
 pub use log::{Line, Reason, are_owned_lines};
 pub use program::{Impl, Program};
+pub use solver::{Answer, Limits, MOST_DEPTH, solve};
 pub use verifier::verify;

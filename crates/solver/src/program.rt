@@ -63,6 +63,13 @@ impl Program {
         }
     }
 
+    /// Returns the implementations in their order.
+    pub fn impls(&self) -> &[Impl]
+        ensures { result.now ≡ self.now }
+    {
+        self.impls.as_slice()
+    }
+
     /// Declares an implementation. What was derived stays derived.
     ///
     /// # Errors

@@ -2,6 +2,7 @@
 
 mod declared;
 mod logs;
+mod solving;
 
 ghost use Rattle.tt_interner.specs.Stored.{Extends};
 ghost use Rattle.solver.specs.Program.{IsProgram};

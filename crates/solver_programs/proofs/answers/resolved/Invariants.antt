@@ -1,0 +1,10 @@
+use Rattle.tt_interner.specs.Stored.{Extends}
+use Rattle.unify.specs.Bindings.{IsTable}
+use Rattle.solver_programs.proofs.answers.resolved.Given as goal
+
+-- the interner has only grown, and the bindings are a table of its types
+abbrev pub invariant-loop-index : goal.invariant-loop-index
+invariant-loop-index l = record {
+  extends : Extends l.initial.cx l.cx;
+  table : IsTable l.cx l.bindings;
+}
