@@ -1,6 +1,7 @@
 //! Inferring the types of a body's expressions.
 //!
-//! Each expression has an inference variable for its type, and each rule makes types equal.
+//! The type of an expression follows from the types of its operands, which come before it. It holds an inference variable
+//! for what isn't known yet: a type argument, or what a value refers to that is dereferenced.
 
 mod calls;
 mod common;
@@ -18,12 +19,12 @@ ghost use Rattle.checker.specs.Scope.{IsScope};
 use crate::built::built;
 use crate::declared::Declared;
 use crate::failure::Failure;
-use crate::lookup::{at, type_at};
+use crate::lookup::at;
 use crate::mistake::{Mistake, Origin, Wanted, unknown_type};
 use crate::scope::{Scope, let_of, operand, place_of, type_of, written};
-use crate::types::reference_to;
-use checker_syntax::program::{Body, Expression, Function, Place, Program};
-use equality::{equate, fresh_variables, is_of};
+use crate::types::{item_type, reference_to, tuple_of};
+use checker_syntax::program::{Body, Expression, Function, Program};
+use equality::{equate, fresh_variable};
 use tt_interner::Interner;
 use tt_kinds::Ty;
 use tt_visit::TypeVisitableExt;
@@ -53,34 +54,59 @@ pub fn infer_body(
     ensures subjects { IfOk result (λ i. AreOwned ty_shape cx.new i.subjects.items) }
 {
     let mut bindings = Bindings::new(cx.allocator());
-    let variables = fresh_variables(cx, &mut bindings, body.expressions.len())?;
+    let found = infer_all(cx, program, declared, function, body, &mut bindings)?;
     let scope = Scope {
         program,
         declared,
         function,
         body,
-        types: variables.as_slice(),
+        types: found.types.as_slice(),
     };
-    infer_within(cx, scope, &mut bindings)
+    infer_result(cx, scope, &mut bindings)?;
+    let types = resolved(cx, scope, &bindings, scope.types, Wanted::Type)?;
+    let subjects = resolved(
+        cx,
+        scope,
+        &bindings,
+        found.subjects.as_slice(),
+        Wanted::Arguments,
+    )?;
+    Ok(Inferred { types, subjects })
 }
 
-// Infers the types of a body whose expressions have variables for their types.
+// Infers the types of all expressions, with variables.
 #[tactic(auto, using(crate::proofs::ClientLaws::growth_laws))]
-fn infer_within(
+fn infer_all(
     cx: &mut Interner,
-    scope: Scope<'_>,
+    program: &Program,
+    declared: &Declared,
+    function: &Function,
+    body: &Body,
     bindings: &mut Bindings,
 ) -> Result<Inferred, Failure>
-    requires scope { IsScope cx.old scope }
+    requires declared { IsDeclared cx.old program.now declared.now }
     requires table { IsTable cx.old bindings.old }
     ensures extends { Extends cx.old cx.new }
+    ensures table { IsTable cx.new bindings.new }
     ensures types { IfOk result (λ i. AreOwned ty_shape cx.new i.types.items) }
     ensures subjects { IfOk result (λ i. AreOwned ty_shape cx.new i.subjects.items) }
 {
-    let subjects = infer_all(cx, scope, bindings)?;
-    infer_result(cx, scope, bindings)?;
-    let types = resolved(cx, scope, bindings, scope.types, Wanted::Type)?;
-    let subjects = resolved(cx, scope, bindings, subjects.as_slice(), Wanted::Arguments)?;
+    let mut types = Vec::new(cx.allocator());
+    let mut subjects = Vec::new(cx.allocator());
+    for number in 0..body.expressions.len() {
+        let expression = at(body.expressions.as_slice(), number)?;
+        let before = types.as_slice();
+        let scope = Scope {
+            program,
+            declared,
+            function,
+            body,
+            types: before,
+        };
+        let found = infer(cx, scope, bindings, number, expression)?;
+        types.push(found.0)?;
+        subjects.push(found.1)?;
+    }
     Ok(Inferred { types, subjects })
 }
 
@@ -102,27 +128,6 @@ fn infer_result(cx: &mut Interner, scope: Scope<'_>, bindings: &mut Bindings) ->
     equate(cx, bindings, place, origin, output, result)
 }
 
-// Infers the types of all expressions, and returns the [`Inferred::subjects`], with variables.
-#[tactic(auto, using(crate::proofs::ClientLaws::growth_laws))]
-fn infer_all(
-    cx: &mut Interner,
-    scope: Scope<'_>,
-    bindings: &mut Bindings,
-) -> Result<Vec<Ty>, Failure>
-    requires scope { IsScope cx.old scope }
-    requires table { IsTable cx.old bindings.old }
-    ensures extends { Extends cx.old cx.new }
-    ensures table { IsTable cx.new bindings.new }
-    ensures owned { IfOk result (λ types. AreOwned ty_shape cx.new types.items) }
-{
-    let mut subjects = Vec::new(cx.allocator());
-    for number in 0..scope.body.expressions.len() {
-        let expression = at(scope.body.expressions.as_slice(), number)?;
-        subjects.push(infer(cx, scope, bindings, number, expression)?)?;
-    }
-    Ok(subjects)
-}
-
 // Returns the types with their variables replaced. Each type has to be known.
 #[tactic(auto, using(crate::proofs::ClientLaws::growth_laws))]
 fn resolved(
@@ -138,10 +143,33 @@ fn resolved(
     ensures table { IsTable cx.new bindings.now }
     ensures owned { IfOk result (λ known. AreOwned ty_shape cx.new known.items) }
 {
+    // As parts of one type, types that share parts are resolved in one walk.
+    let whole = tuple_of(cx, types)?;
+    let all = bindings.resolve(cx, whole)?;
+    known_items(cx, scope, bindings, all, types.len(), wanted)
+}
+
+// Returns so many items of the tuple. Each has to be known.
+#[tactic(auto, using(crate::proofs::ClientLaws::growth_laws))]
+fn known_items(
+    cx: &mut Interner,
+    scope: Scope<'_>,
+    bindings: &Bindings,
+    all: Ty,
+    count: usize,
+    wanted: Wanted,
+) -> Result<Vec<Ty>, Failure>
+    requires table { IsTable cx.old bindings.now }
+    requires all { IsOwned ty_shape cx.old all }
+    ensures extends { Extends cx.old cx.new }
+    ensures table { IsTable cx.new bindings.now }
+    ensures owned { IfOk result (λ known. AreOwned ty_shape cx.new known.items) }
+{
     let mut known = Vec::new(cx.allocator());
-    for number in 0..types.len() {
-        let ty = type_at(cx, types, number)?;
-        let ty = bindings.resolve(cx, ty)?;
+    for number in 0..count {
+        let Some(ty) = item_type(cx, all, number) else {
+            return Err(Failure::Malformed);
+        };
         if ty.has_infer(cx) {
             let place = place_of(scope, number)?;
             let cause = unknown_type(cx, bindings, ty, wanted, let_of(scope, number))?;
@@ -152,9 +180,32 @@ fn resolved(
     Ok(known)
 }
 
-// Infers the type of the expression of this number, and returns the expression's entry of [`Inferred::subjects`].
+// Infers the type of the expression of this number. Returns the expression's entries of [`Inferred`].
 #[tactic(auto, using(crate::proofs::ClientLaws::growth_laws))]
 fn infer(
+    cx: &mut Interner,
+    scope: Scope<'_>,
+    bindings: &mut Bindings,
+    number: usize,
+    expression: Expression,
+) -> Result<(Ty, Ty), Failure>
+    requires scope { IsScope cx.old scope }
+    requires table { IsTable cx.old bindings.old }
+    ensures extends { Extends cx.old cx.new }
+    ensures table { IsTable cx.new bindings.new }
+    ensures ty { IfOk result (λ found. IsOwned ty_shape cx.new found.0) }
+    ensures subject { IfOk result (λ found. IsOwned ty_shape cx.new found.1) }
+{
+    if let Expression::Call(function, arguments) = expression {
+        return calls::infer_call(cx, scope, bindings, number, function, arguments);
+    }
+    let ty = infer_type(cx, scope, bindings, number, expression)?;
+    Ok((ty, ty))
+}
+
+// Infers the type of the expression of this number, which is no call.
+#[tactic(auto, using(crate::proofs::ClientLaws::growth_laws))]
+fn infer_type(
     cx: &mut Interner,
     scope: Scope<'_>,
     bindings: &mut Bindings,
@@ -167,47 +218,22 @@ fn infer(
     ensures table { IsTable cx.new bindings.new }
     ensures owned { IfOk result (λ ty. IsOwned ty_shape cx.new ty) }
 {
-    let ty = type_of(cx, scope, number)?;
     match expression {
         Expression::Let(init, annotation) => {
-            infer_let(cx, scope, bindings, number, init, annotation)?;
+            infer_let(cx, scope, bindings, number, init, annotation)
         }
-        Expression::Dereference(value) => {
-            infer_dereference(cx, scope, bindings, number, value)?;
-        }
-        Expression::Call(function, arguments) => {
-            return calls::infer_call(cx, scope, bindings, number, function, arguments);
-        }
+        Expression::Dereference(value) => infer_dereference(cx, scope, bindings, number, value),
         Expression::Data(data, fields) => {
-            calls::infer_data(cx, scope, bindings, number, data, fields)?;
+            calls::infer_data(cx, scope, bindings, number, data, fields)
         }
         Expression::Field(value, name) => {
-            projections::infer_field(cx, scope, bindings, number, value, name)?;
+            projections::infer_field(cx, scope, bindings, number, value, name)
         }
         Expression::Item(value, item) => {
-            projections::infer_item(cx, scope, bindings, number, value, item)?;
+            projections::infer_item(cx, scope, bindings, number, value, item)
         }
-        _ => infer_built(cx, scope, bindings, number, expression)?,
+        _ => built(cx, scope, number, expression),
     }
-    Ok(ty)
-}
-
-// Infers the type of an expression whose type follows from its operands' types.
-#[tactic(auto, using(crate::proofs::ClientLaws::growth_laws))]
-fn infer_built(
-    cx: &mut Interner,
-    scope: Scope<'_>,
-    bindings: &mut Bindings,
-    number: usize,
-    expression: Expression,
-) -> Result<(), Failure>
-    requires scope { IsScope cx.old scope }
-    requires table { IsTable cx.old bindings.old }
-    ensures extends { Extends cx.old cx.new }
-    ensures table { IsTable cx.new bindings.new }
-{
-    let ty = built(cx, scope, number, expression)?;
-    is_of(cx, scope, bindings, number, ty)
 }
 
 // Infers the type of what a reference refers to.
@@ -218,17 +244,19 @@ fn infer_dereference(
     bindings: &mut Bindings,
     number: usize,
     value: usize,
-) -> Result<(), Failure>
+) -> Result<Ty, Failure>
     requires scope { IsScope cx.old scope }
     requires table { IsTable cx.old bindings.old }
     ensures extends { Extends cx.old cx.new }
     ensures table { IsTable cx.new bindings.new }
+    ensures owned { IfOk result (λ ty. IsOwned ty_shape cx.new ty) }
 {
-    let ty = type_of(cx, scope, number)?;
     let found = operand(cx, scope, number, value)?;
     let place = place_of(scope, value)?;
+    let ty = fresh_variable(cx, bindings)?;
     let expected = reference_to(cx, ty)?;
-    equate(cx, bindings, place, Origin::Dereference, expected, found)
+    equate(cx, bindings, place, Origin::Dereference, expected, found)?;
+    Ok(ty)
 }
 
 // Infers the type of a `let`: the type of its value, which has to equal the written type if there is one.
@@ -240,41 +268,19 @@ fn infer_let(
     number: usize,
     init: usize,
     annotation: Option<usize>,
-) -> Result<(), Failure>
+) -> Result<Ty, Failure>
     requires scope { IsScope cx.old scope }
     requires table { IsTable cx.old bindings.old }
     ensures extends { Extends cx.old cx.new }
     ensures table { IsTable cx.new bindings.new }
+    ensures owned { IfOk result (λ ty. IsOwned ty_shape cx.new ty) }
 {
     let found = operand(cx, scope, number, init)?;
-    let place = place_of(scope, init)?;
-    let origin = Origin::Let(place_of(scope, number)?);
-    equate_written(cx, scope, bindings, place, origin, annotation, found)?;
-    is_of(cx, scope, bindings, number, found)
-}
-
-// Makes the type equal to the written one, if there is one.
-#[tactic(auto, using(crate::proofs::ClientLaws::growth_laws))]
-fn equate_written(
-    cx: &mut Interner,
-    scope: Scope<'_>,
-    bindings: &mut Bindings,
-    place: Place,
-    origin: Origin,
-    annotation: Option<usize>,
-    found: Ty,
-) -> Result<(), Failure>
-    requires scope { IsScope cx.old scope }
-    requires table { IsTable cx.old bindings.old }
-    requires found { IsOwned ty_shape cx.old found }
-    ensures extends { Extends cx.old cx.new }
-    ensures table { IsTable cx.new bindings.new }
-{
-    match annotation {
-        Some(annotation) => {
-            let expected = written(cx, scope, annotation)?;
-            equate(cx, bindings, place, origin, expected, found)
-        }
-        None => Ok(()),
+    if let Some(annotation) = annotation {
+        let expected = written(cx, scope, annotation)?;
+        let place = place_of(scope, init)?;
+        let origin = Origin::Let(place_of(scope, number)?);
+        equate(cx, bindings, place, origin, expected, found)?;
     }
+    Ok(found)
 }

@@ -73,8 +73,6 @@ pub enum Origin {
     Let(Place),
     /// The `*` before the expression.
     Dereference,
-    /// The expression itself, by its form. No program is known where this differs from the type that was found.
-    Form,
 }
 
 /// A function or a data type of the program, by its number.

@@ -18,8 +18,8 @@ use tt_interner::{InternedKind, InternedList, Interner};
 use tt_kinds::{AdtId, FunctionId, GenericArg, GenericArgKind, GenericArgs, Region, Ty, TyKind};
 use tt_visit::TypeVisitableExt;
 
-// The greatest number of references that are taken off a type.
-const MOST_REFERENCES: u32 = u32::MAX;
+/// The greatest number of references that are taken off a type.
+pub const MOST_REFERENCES: u32 = u32::MAX;
 
 /// Returns the type parameter of this index and name.
 pub fn parameter(cx: &mut Interner, index: usize, name: &str) -> Result<Ty, Failure>

@@ -141,7 +141,6 @@ fn note_clash(
             let text = String::from_str(alloc, "`*` takes a reference")?;
             notes.push(Note { place: None, text })?;
         }
-        Origin::Form => {}
     }
     Ok(())
 }

@@ -10,7 +10,7 @@ ghost use Rattle.checker.specs.Scope.{IsScope};
 ghost use Rattle.tt_kinds.specs.Values.{fn_sig_shape};
 
 use crate::failure::Failure;
-use crate::infer::equality::{equate, fresh_variables, is_of};
+use crate::infer::equality::{equate, fresh_variables};
 use crate::lookup::{at, part_of, type_at};
 use crate::mistake::{Item, Mistake, Origin, wrong_count};
 use crate::scope::{Scope, operand, place_of};
@@ -92,8 +92,8 @@ fn equate_each(
     Ok(())
 }
 
-/// Infers the type of a call and the type arguments of the function, and returns the type of the function at these
-/// arguments.
+/// Infers the type of a call and the type arguments of the function. Returns the call's type, and the type of the function
+/// at these arguments.
 #[tactic(auto, using(crate::proofs::ClientLaws::growth_laws))]
 pub fn infer_call(
     cx: &mut Interner,
@@ -102,12 +102,13 @@ pub fn infer_call(
     number: usize,
     function: usize,
     arguments: Span,
-) -> Result<Ty, Failure>
+) -> Result<(Ty, Ty), Failure>
     requires scope { IsScope cx.old scope }
     requires table { IsTable cx.old bindings.old }
     ensures extends { Extends cx.old cx.new }
     ensures table { IsTable cx.new bindings.new }
-    ensures owned { IfOk result (λ ty. IsOwned ty_shape cx.new ty) }
+    ensures ty { IfOk result (λ found. IsOwned ty_shape cx.new found.0) }
+    ensures subject { IfOk result (λ found. IsOwned ty_shape cx.new found.1) }
 {
     let Some(callee) = scope.program.functions.get(function) else {
         return Err(Failure::Malformed);
@@ -131,8 +132,7 @@ pub fn infer_call(
         inputs.as_slice(),
         arguments,
     )?;
-    is_of(cx, scope, bindings, number, output)?;
-    Ok(item)
+    Ok((output, item))
 }
 
 // Returns the types of the inputs and of the output of a function's type.
@@ -178,11 +178,12 @@ pub fn infer_data(
     number: usize,
     data: usize,
     fields: Span,
-) -> Result<(), Failure>
+) -> Result<Ty, Failure>
     requires scope { IsScope cx.old scope }
     requires table { IsTable cx.old bindings.old }
     ensures extends { Extends cx.old cx.new }
     ensures table { IsTable cx.new bindings.new }
+    ensures owned { IfOk result (λ ty. IsOwned ty_shape cx.new ty) }
 {
     let Some(item) = scope.program.data.get(data) else {
         return Err(Failure::Malformed);
@@ -196,7 +197,7 @@ pub fn infer_data(
     }
     let owner = Item::Data(data);
     equate_each(cx, scope, bindings, number, owner, types.as_slice(), values)?;
-    is_of(cx, scope, bindings, number, ty)
+    Ok(ty)
 }
 
 // Returns the types of a data type's fields.

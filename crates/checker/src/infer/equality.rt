@@ -5,20 +5,18 @@ ghost use Rattle.tt_kinds.specs.Kinds.{ty_shape};
 ghost use Rattle.tt_interner.specs.Owned.{AreOwned, IsOwned};
 ghost use Rattle.tt_interner.specs.Stored.{Extends};
 ghost use Rattle.unify.specs.Bindings.{IsTable};
-ghost use Rattle.checker.specs.Scope.{IsScope};
 
 use crate::failure::Failure;
 use crate::infer::common::unify_common;
 use crate::mistake::{Mistake, Origin, mismatch};
-use crate::scope::{Scope, place_of, type_of};
 use checker_syntax::program::Place;
 use tt_interner::Interner;
 use tt_kinds::Ty;
 use unify::{Bindings, Fault, unify};
 
-// Returns a new variable.
+/// Returns a new variable.
 #[tactic(auto, using(crate::proofs::ClientLaws::growth_laws))]
-fn fresh_variable(cx: &mut Interner, bindings: &mut Bindings) -> Result<Ty, Failure>
+pub fn fresh_variable(cx: &mut Interner, bindings: &mut Bindings) -> Result<Ty, Failure>
     requires { IsTable cx.old bindings.old }
     ensures extends { Extends cx.old cx.new }
     ensures table { IsTable cx.new bindings.new }
@@ -77,24 +75,4 @@ pub fn equate(
             Err(Failure::Wrong(Mistake { place, cause }))
         }
     }
-}
-
-/// Makes this the type of the expression of this number.
-#[tactic(auto, using(crate::proofs::ClientLaws::growth_laws))]
-pub fn is_of(
-    cx: &mut Interner,
-    scope: Scope<'_>,
-    bindings: &mut Bindings,
-    number: usize,
-    ty: Ty,
-) -> Result<(), Failure>
-    requires scope { IsScope cx.old scope }
-    requires table { IsTable cx.old bindings.old }
-    requires ty { IsOwned ty_shape cx.old ty }
-    ensures extends { Extends cx.old cx.new }
-    ensures table { IsTable cx.new bindings.new }
-{
-    let expected = type_of(cx, scope, number)?;
-    let place = place_of(scope, number)?;
-    equate(cx, bindings, place, Origin::Form, expected, ty)
 }

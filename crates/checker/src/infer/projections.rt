@@ -10,34 +10,37 @@ ghost use Rattle.checker.specs.Scope.{IsScope};
 use crate::declared::symbol_of;
 use crate::failure::Failure;
 use crate::infer::calls::{field_type, fields_of};
-use crate::infer::equality::is_of;
 use crate::lookup::at;
 use crate::mistake::{Mistake, Wanted, no_field, no_item, unknown_type};
 use crate::scope::{Scope, let_of, operand, place_of};
-use crate::types::{item_type, without_references};
+use crate::types::{MOST_REFERENCES, item_type};
 use tt_binder::DataTypes;
+use tt_index::Mutability;
 use tt_interner::{InternedKind, Interner};
 use tt_kinds::{Symbol, Ty, TyKind};
 use unify::Bindings;
 
-// Returns the type of the operand as far as the type is known, without the references around it.
-#[tactic(auto, using(crate::proofs::ClientLaws::growth_laws))]
+// Returns the type of the operand as far as the outermost type is known, without the references around it.
 fn known(
-    cx: &mut Interner,
+    cx: &Interner,
     scope: Scope<'_>,
     bindings: &Bindings,
     number: usize,
     value: usize,
 ) -> Result<Ty, Failure>
-    requires scope { IsScope cx.old scope }
-    requires table { IsTable cx.old bindings.now }
-    ensures extends { Extends cx.old cx.new }
-    ensures table { IsTable cx.new bindings.now }
-    ensures owned { IfOk result (λ ty. IsOwned ty_shape cx.new ty) }
+    requires scope { IsScope cx.now scope }
+    requires table { IsTable cx.now bindings.now }
+    ensures { IfOk result (λ ty. IsOwned ty_shape cx.now ty) }
 {
     let ty = operand(cx, scope, number, value)?;
-    let ty = bindings.resolve(cx, ty)?;
-    Ok(without_references(cx, ty))
+    let mut ty = bindings.shallow_resolve(cx, ty);
+    for _ in 0..MOST_REFERENCES {
+        let TyKind::Ref(_, referent, Mutability::Not) = *ty.kind(cx) else {
+            return Ok(ty);
+        };
+        ty = bindings.shallow_resolve(cx, referent);
+    }
+    Ok(ty)
 }
 
 // Returns the type of the field of this name, if the type has one.
@@ -71,15 +74,16 @@ fn is_unknown(cx: &Interner, ty: Ty) -> bool
 pub fn infer_field(
     cx: &mut Interner,
     scope: Scope<'_>,
-    bindings: &mut Bindings,
+    bindings: &Bindings,
     number: usize,
     value: usize,
     name: usize,
-) -> Result<(), Failure>
+) -> Result<Ty, Failure>
     requires scope { IsScope cx.old scope }
-    requires table { IsTable cx.old bindings.old }
+    requires table { IsTable cx.old bindings.now }
     ensures extends { Extends cx.old cx.new }
-    ensures table { IsTable cx.new bindings.new }
+    ensures table { IsTable cx.new bindings.now }
+    ensures owned { IfOk result (λ ty. IsOwned ty_shape cx.new ty) }
 {
     let whole = known(cx, scope, bindings, number, value)?;
     let place = place_of(scope, number)?;
@@ -91,7 +95,7 @@ pub fn infer_field(
     }
     let symbol = symbol_of(cx, scope.program, name)?;
     match field_named(cx, whole, symbol)? {
-        Some(ty) => is_of(cx, scope, bindings, number, ty),
+        Some(ty) => Ok(ty),
         None => {
             let cause = no_field(cx, scope.program, bindings, whole, name)?;
             Err(Failure::Wrong(Mistake { place, cause }))
@@ -104,15 +108,16 @@ pub fn infer_field(
 pub fn infer_item(
     cx: &mut Interner,
     scope: Scope<'_>,
-    bindings: &mut Bindings,
+    bindings: &Bindings,
     number: usize,
     value: usize,
     item: usize,
-) -> Result<(), Failure>
+) -> Result<Ty, Failure>
     requires scope { IsScope cx.old scope }
-    requires table { IsTable cx.old bindings.old }
+    requires table { IsTable cx.old bindings.now }
     ensures extends { Extends cx.old cx.new }
-    ensures table { IsTable cx.new bindings.new }
+    ensures table { IsTable cx.new bindings.now }
+    ensures owned { IfOk result (λ ty. IsOwned ty_shape cx.new ty) }
 {
     let whole = known(cx, scope, bindings, number, value)?;
     let place = place_of(scope, number)?;
@@ -123,7 +128,7 @@ pub fn infer_item(
         return Err(Failure::Wrong(Mistake { place, cause }));
     }
     match item_type(cx, whole, item) {
-        Some(ty) => is_of(cx, scope, bindings, number, ty),
+        Some(ty) => Ok(ty),
         None => {
             let cause = no_item(cx, bindings, whole, item)?;
             Err(Failure::Wrong(Mistake { place, cause }))

@@ -15,11 +15,5 @@ equate_each-requires-clause-scope c = scope_stays c.args.cx.now c.signature.new.
 pub returns-in_err-equate_each-clause-extends : goal.returns-in_err-equate_each-clause-extends
 returns-in_err-equate_each-clause-extends c = Extends-trans c.fresh_function.ensures.extends (Extends-trans c.signature.ensures.extends c.equate_each.ensures.extends)
 
-pub is_of-requires-clause-scope : goal.is_of-requires-clause-scope
-is_of-requires-clause-scope c = scope_stays c.args.cx.now c.equate_each.new.cx _ (Extends-trans c.fresh_function.ensures.extends (Extends-trans c.signature.ensures.extends c.equate_each.ensures.extends)) c.requires.scope
-
-pub returns-in_err-is_of-clause-extends : goal.returns-in_err-is_of-clause-extends
-returns-in_err-is_of-clause-extends c = Extends-trans c.fresh_function.ensures.extends (Extends-trans c.signature.ensures.extends (Extends-trans c.equate_each.ensures.extends c.is_of.ensures.extends))
-
 pub returns-clause-extends : goal.returns-clause-extends
-returns-clause-extends c = Extends-trans c.fresh_function.ensures.extends (Extends-trans c.signature.ensures.extends (Extends-trans c.equate_each.ensures.extends c.is_of.ensures.extends))
+returns-clause-extends c = Extends-trans c.fresh_function.ensures.extends (Extends-trans c.signature.ensures.extends c.equate_each.ensures.extends)

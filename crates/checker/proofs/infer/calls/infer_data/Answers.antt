@@ -18,8 +18,5 @@ equate_each-requires-clause-scope c = scope_stays c.args.cx.now c.field_types.ne
 pub returns-in_err-equate_each-clause-extends : goal.returns-in_err-equate_each-clause-extends
 returns-in_err-equate_each-clause-extends c = Extends-trans c.fresh_data_type.ensures.extends (Extends-trans c.field_types.ensures.extends c.equate_each.ensures.extends)
 
-pub is_of-requires-clause-scope : goal.is_of-requires-clause-scope
-is_of-requires-clause-scope c = scope_stays c.args.cx.now c.equate_each.new.cx _ (Extends-trans c.fresh_data_type.ensures.extends (Extends-trans c.field_types.ensures.extends c.equate_each.ensures.extends)) c.requires.scope
-
 pub returns-clause-extends : goal.returns-clause-extends
-returns-clause-extends c = Extends-trans c.fresh_data_type.ensures.extends (Extends-trans c.field_types.ensures.extends (Extends-trans c.equate_each.ensures.extends c.is_of.ensures.extends))
+returns-clause-extends c = Extends-trans c.fresh_data_type.ensures.extends (Extends-trans c.field_types.ensures.extends c.equate_each.ensures.extends)

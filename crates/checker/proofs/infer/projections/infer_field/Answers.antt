@@ -1,32 +1,21 @@
 use Rattle.tt_interner.proofs.Growth.{Extends-trans}
 use Rattle.unify.proofs.UnificationLaws.{table_stays}
-use Rattle.checker.proofs.ScopeLaws.{scope_stays}
 use Rattle.checker.proofs.infer.projections.infer_field.Goals as goal
 
 pub returns-in_err-symbol-clause-table : goal.returns-in_err-symbol-clause-table
-returns-in_err-symbol-clause-table c = table_stays c.known.new.cx c.symbol_of.new.cx c.args.bindings.now c.symbol_of.ensures.extends c.known.ensures.table
-
-pub is_of-requires-clause-scope : goal.is_of-requires-clause-scope
-is_of-requires-clause-scope c = scope_stays c.args.cx.now c.field_named.new.cx _ (Extends-trans c.known.ensures.extends (Extends-trans c.symbol_of.ensures.extends c.field_named.ensures.extends)) c.requires.scope
-
-pub is_of-requires-clause-table : goal.is_of-requires-clause-table
-is_of-requires-clause-table c = table_stays c.known.new.cx c.field_named.new.cx c.args.bindings.now (Extends-trans c.symbol_of.ensures.extends c.field_named.ensures.extends) c.known.ensures.table
-
-pub returns-in-Some-clause-extends : goal.returns-in-Some-clause-extends
-returns-in-Some-clause-extends c = Extends-trans c.known.ensures.extends (Extends-trans c.symbol_of.ensures.extends (Extends-trans c.field_named.ensures.extends c.is_of.ensures.extends))
+returns-in_err-symbol-clause-table c = table_stays c.args.cx.now c.symbol_of.new.cx c.args.bindings.now c.symbol_of.ensures.extends c.requires.table
 
 pub no_field-requires-clause-table : goal.no_field-requires-clause-table
-no_field-requires-clause-table c = table_stays c.known.new.cx c.field_named.new.cx c.args.bindings.now (Extends-trans c.symbol_of.ensures.extends c.field_named.ensures.extends) c.known.ensures.table
+no_field-requires-clause-table c = table_stays c.args.cx.now c.field_named.new.cx c.args.bindings.now (Extends-trans c.symbol_of.ensures.extends c.field_named.ensures.extends) c.requires.table
 
 pub returns-in_err-ty-clause-table : goal.returns-in_err-ty-clause-table
-returns-in_err-ty-clause-table c = table_stays c.known.new.cx c.field_named.new.cx c.args.bindings.now (Extends-trans c.symbol_of.ensures.extends c.field_named.ensures.extends) c.known.ensures.table
+returns-in_err-ty-clause-table c = table_stays c.args.cx.now c.field_named.new.cx c.args.bindings.now (Extends-trans c.symbol_of.ensures.extends c.field_named.ensures.extends) c.requires.table
+
+pub returns-in-Some-clause-table : goal.returns-in-Some-clause-table
+returns-in-Some-clause-table c = table_stays c.args.cx.now c.field_named.new.cx c.args.bindings.now (Extends-trans c.symbol_of.ensures.extends c.field_named.ensures.extends) c.requires.table
 
 pub returns-in_err-cause-in-None-clause-extends : goal.returns-in_err-cause-in-None-clause-extends
-returns-in_err-cause-in-None-clause-extends c = Extends-trans c.known.ensures.extends (Extends-trans c.symbol_of.ensures.extends (Extends-trans c.field_named.ensures.extends c.no_field.ensures.extends))
+returns-in_err-cause-in-None-clause-extends c = Extends-trans c.symbol_of.ensures.extends (Extends-trans c.field_named.ensures.extends c.no_field.ensures.extends)
 
 pub returns-in_ok-cause-in-None-clause-extends : goal.returns-in_ok-cause-in-None-clause-extends
-returns-in_ok-cause-in-None-clause-extends c = Extends-trans c.known.ensures.extends (Extends-trans c.symbol_of.ensures.extends (Extends-trans c.field_named.ensures.extends c.no_field.ensures.extends))
-
-pub returns-in_err-ty-clause-extends : goal.returns-in_err-ty-clause-extends
-returns-in_err-ty-clause-extends c =
-    Extends-trans c.known.ensures.extends (Extends-trans c.symbol_of.ensures.extends c.field_named.ensures.extends)
+returns-in_ok-cause-in-None-clause-extends c = Extends-trans c.symbol_of.ensures.extends (Extends-trans c.field_named.ensures.extends c.no_field.ensures.extends)
