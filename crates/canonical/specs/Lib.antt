@@ -1,0 +1,5 @@
+pub mod Canonical
+pub mod Collector
+pub mod Laws
+pub mod Numbers
+pub mod Search
