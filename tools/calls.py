@@ -65,8 +65,10 @@ def function_at(lines, place):
 
 def trait_at(lines, place):
     """Returns the texts of a trait's first line, with the types that it has, and of its ghost members."""
-    header, body = joined(header_at(lines, place)), "\n".join(lines[place : lines.index("}", place)])
-    return "\n".join([header, *TYPES.findall(body)]), textwrap.dedent("\n".join(GHOSTS.findall(body)))
+    header = header_at(lines, place)
+    is_empty = header[-1].endswith("{}")
+    body = "" if is_empty else "\n".join(lines[place : lines.index("}", place)])
+    return "\n".join([joined(header).removesuffix(" {}"), *TYPES.findall(body)]), textwrap.dedent("\n".join(GHOSTS.findall(body)))
 
 
 def items_of(file):

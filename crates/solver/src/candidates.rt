@@ -12,7 +12,8 @@ use crate::program::{Impl, Program};
 use tt_index::Refusal;
 use tt_interner::Interner;
 use tt_kinds::{GenericArgs, TraitPredicate};
-use tt_visit::{Owned, TypeVisitableExt};
+use tt_owned::Owned;
+use tt_visit::TypeVisitableExt;
 use unify::Bindings;
 
 /// What goals may be derived from.

@@ -5,7 +5,7 @@ ghost use Rattle.solver.specs.Log.{AreOwnedLines, IsOwnedLine};
 
 use tt_interner::Interner;
 use tt_kinds::{GenericArgs, TraitPredicate};
-use tt_visit::Owned;
+use tt_owned::Owned;
 
 /// Why a goal is derived.
 #[derive(Debug, Drop)]

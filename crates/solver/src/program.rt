@@ -15,7 +15,7 @@ use std::alloc::Global;
 use std::marker::Model;
 use tt_interner::{InternedList, Interner};
 use tt_kinds::{GenericArgs, TraitPredicate};
-use tt_visit::{Owned, are_owned};
+use tt_owned::{Owned, are_owned};
 
 /// An implementation `impl<..> Trait<..> for Type where ..`. Its parameters are types.
 #[derive(Debug, Drop)]

@@ -8,7 +8,7 @@ use crate::log::{Line, Reason};
 use tt_index::Refusal;
 use tt_interner::Interner;
 use tt_kinds::TraitPredicate;
-use tt_visit::Owned;
+use tt_owned::Owned;
 use unify::Bindings;
 
 /// Returns the lines from this number on, with the bound variables in them replaced.

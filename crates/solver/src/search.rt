@@ -15,7 +15,8 @@ use crate::resolved::resolved_lines;
 use tt_index::Refusal;
 use tt_interner::Interner;
 use tt_kinds::{GenericArgs, TraitPredicate};
-use tt_visit::{Owned, TypeVisitableExt};
+use tt_owned::Owned;
+use tt_visit::TypeVisitableExt;
 use unify::Bindings;
 
 /// What a search knows of a goal.

@@ -14,7 +14,7 @@ use solver_syntax::script::{Goal, Group, Script};
 use std::alloc::AllocError;
 use tt_interner::Interner;
 use tt_kinds::{TraitPredicate, Ty};
-use tt_visit::{Owned, are_owned};
+use tt_owned::{Owned, are_owned};
 use unify::Bindings;
 
 /// What is asked for.

@@ -10,8 +10,8 @@ use std::alloc::AllocError;
 use tt_index::TyVid;
 use tt_interner::{InternedKind, InternedList, InternedText, Interner};
 use tt_kinds::{DefId, GenericArg, InferTy, TraitPredicate, Ty, TyKind};
+use tt_owned::Owned;
 use tt_print::IrPrint;
-use tt_visit::Owned;
 
 // The greatest number of names and marks in a type's text.
 const MOST_PIECES: usize = 200;

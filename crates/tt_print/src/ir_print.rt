@@ -554,7 +554,7 @@ fn print_child(cx: &Interner, out: &mut String, child: &Child) -> Result<(), All
 /// - the token of an error.
 pub trait IrPrint: TypeVisitable {
     /// Appends the value's text to `out`. The value's handles have to be of this interner;
-    /// [`Owned::is_owned`](tt_visit::Owned::is_owned) tests it. An id that names no declaration of this interner is
+    /// `Owned::is_owned` tests it. An id that names no declaration of this interner is
     /// written as `#` and its number.
     ///
     /// A term may be as deep as memory allows. If memory is refused, `out` is unchanged.

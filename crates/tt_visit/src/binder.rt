@@ -20,7 +20,7 @@ pub trait BinderExt<T: TypeVisitable>: Sized {
     ghost unbound: { T → Self };
 
     /// Returns the value under a binder of no variables. The value's handles have to be of this interner;
-    /// [`Owned::is_owned`](crate::Owned::is_owned) tests it. No variable may escape the value, since the new binder
+    /// `Owned::is_owned` tests it. No variable may escape the value, since the new binder
     /// would capture it; [`TypeVisitableExt::has_escaping_bound_vars`] tests it.
     fn dummy(cx: &Interner, value: T) -> Self
         requires value { IsPartBy T.shape cx.now.rows value }
@@ -28,7 +28,7 @@ pub trait BinderExt<T: TypeVisitable>: Sized {
         ensures { result ≡ unbound value };
 
     /// Returns the value without its binder, if no variable escapes it: none of this binder's, and none of a binder
-    /// further out. The value's handles have to be of this interner; [`Owned::is_owned`](crate::Owned::is_owned) tests
+    /// further out. The value's handles have to be of this interner; `Owned::is_owned` tests
     /// it.
     fn no_bound_vars(self, cx: &Interner) -> Option<T>
         requires { IsPartBy T.shape cx.now.rows (bound self) }
@@ -60,7 +60,7 @@ pub trait EarlyBinderExt<T: TypeVisitable>: Sized {
     ghost declared: { Self → T };
 
     /// Returns the value as it is declared, if no parameter occurs in it. The value's handles have to be of this
-    /// interner; [`Owned::is_owned`](crate::Owned::is_owned) tests it.
+    /// interner; `Owned::is_owned` tests it.
     fn no_bound_vars(self, cx: &Interner) -> Option<T>
         requires { IsPartBy T.shape cx.now.rows (declared self) }
         ensures none { holds_param (tree_by T.shape cx.now.rows (declared self)) ≡ false → result ≡ Some (declared self) }

@@ -67,7 +67,7 @@ use tt_kinds::ErrorGuaranteed;
 /// [`TypeVisitableExt::error_reported`] and [`TypeVisitableExt::non_region_error_reported`] may take a type, a
 /// constant, a predicate or a list of clauses apart.
 ///
-/// The value's handles have to be of this interner; [`Owned::is_owned`](crate::Owned::is_owned) tests it.
+/// The value's handles have to be of this interner; `Owned::is_owned` tests it.
 pub trait TypeVisitableExt: TypeVisitable {
     /// Returns whether a flag of the mask is set anywhere in the value.
     final fn has_type_flags(&self, cx: &Interner, mask: TypeFlags) -> bool

@@ -102,7 +102,7 @@ impl<F: TypeInspector> TypeVisitor for F {
 }
 
 /// Visits a value with an inspector, which is called at the value's types in order, each before its contents, until it
-/// breaks. The value's handles have to be of this interner; [`Owned::is_owned`](crate::Owned::is_owned) tests it.
+/// breaks. The value's handles have to be of this interner; `Owned::is_owned` tests it.
 pub fn inspect_types<T: TypeVisitable, F: TypeInspector>(
     cx: &Interner,
     value: &T,

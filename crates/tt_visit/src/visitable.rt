@@ -17,7 +17,7 @@ pub trait TypeVisitable {
     ghost shape: { Self → Shape };
 
     /// Visits the value: the visitor is called at its regions, terms and binders in order, until a hook breaks. The
-    /// value's handles have to be of this interner; [`Owned::is_owned`](crate::Owned::is_owned) tests it.
+    /// value's handles have to be of this interner; `Owned::is_owned` tests it.
     fn visit_with<V: TypeVisitor>(
         &self,
         cx: &Interner,
@@ -34,7 +34,7 @@ pub trait TypeVisitable {
 /// A value that has a hook of its own.
 pub trait TypeSuperVisitable: TypeVisitable {
     /// Visits the value's contents, without its own hook. The value's handles have to be of this interner;
-    /// [`Owned::is_owned`](crate::Owned::is_owned) tests it.
+    /// `Owned::is_owned` tests it.
     fn super_visit_with<V: TypeVisitor>(
         &self,
         cx: &Interner,

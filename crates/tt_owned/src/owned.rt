@@ -6,8 +6,7 @@ ghost use Rattle.tt_kinds.specs.Kinds.{parts_shapes};
 ghost use Rattle.tt_interner.specs.Owned.{IsPartBy};
 ghost use Rattle.tt_interner.specs.Rows.{size};
 
-use crate::handles::IsWalked;
-use crate::visitable::TypeVisitable;
+use crate::handles::IsTested;
 use indexmap::IndexSet;
 use smallvec::SmallVec;
 use std::boxed::BoxedSlice;
@@ -28,6 +27,7 @@ use tt_kinds::{
     RegionAssumptions, SubtypePredicate, Term, TermKind, TraitPredicate, TraitRef, Ty, TyKind,
     TypeAndMut, UnevaluatedConst, UnsafeBinderInner, ValTree, ValTreeKind, ValueConst,
 };
+use tt_visit::TypeVisitable;
 
 /// A value that can test whether its handles are of an interner.
 pub trait Owned: TypeVisitable {
@@ -56,7 +56,7 @@ fn are_parts_owned(cx: &Interner, parts: &Parts) -> bool
     cx.owns_child(&parts.first) && cx.owns_child(&parts.second)
 }
 
-impl<K: IsWalked> Owned for Handle<K> {
+impl<K: IsTested> Owned for Handle<K> {
     fn is_owned(&self, cx: &Interner) -> bool {
         cx.owns(*self)
     }
