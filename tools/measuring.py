@@ -1,4 +1,4 @@
-"""What bin/bench and bin/bench-unify share: programs are run in turn on the same input, and their figures printed."""
+"""What the tools that measure share: programs are run in turn on the same input, and their figures printed."""
 
 import filecmp
 import math
@@ -17,8 +17,8 @@ NAME = os.path.basename(sys.argv[0])
 TIME = shutil.which("time")
 VALGRIND = shutil.which("valgrind")
 COUNTED = [VALGRIND, "--tool=cachegrind", "--cache-sim=no", "--cachegrind-out-file=/dev/null"]
-# Valgrind counts each byte of a block copy as an instruction, where glibc copies by one instruction (`rep movsb`). With these
-# limits glibc copies by loads and stores.
+# Valgrind counts each byte of a block copy as an instruction, where glibc copies by one instruction (`rep movsb`). With
+# these limits glibc copies by loads and stores.
 LOADS_AND_STORES = ":".join(f"glibc.cpu.x86_rep_{it}_threshold=1000000000" for it in ("movsb", "stosb"))
 NONE = "–"
 

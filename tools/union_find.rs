@@ -1,4 +1,4 @@
-//! A unifier written by hand, which `bin/bench-unify` measures beside the program of `crates/unify_pairs`.
+//! A unifier written by hand, which `bin/bench-unify` measures beside the program of `crates/measured_calls`.
 //!
 //! It reads the same lines and prints the same ones. Types are stored once and named by their numbers, as the library's
 //! are, but a type is a variable, `i32` or a pair, and nothing is proved. Two types are made equal by a union-find over

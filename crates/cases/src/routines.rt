@@ -4,6 +4,7 @@
 //! refusal for want of memory, and at the end of the case.
 
 mod built;
+mod canonical_forms;
 mod copies;
 mod declared;
 mod derivations;
@@ -48,7 +49,10 @@ pub enum Routine {
     TypesAreUnified,
     /// A log follows from two implementations.
     DerivationsAreChecked,
+    /// A goal is answered with a log that follows.
     DerivationsAreFound,
+    /// Types that differ in the names of their variables alone have one canonical form.
+    CanonicalFormsAreExact,
     /// Each call declares its sort by its name, and once more by another id.
     SortsAreDeclared,
     /// A parameter, a reference and a tuple are what the call for all types builds.
@@ -88,6 +92,7 @@ impl Routine {
             "types_are_unified" => Some(Routine::TypesAreUnified),
             "derivations_are_checked" => Some(Routine::DerivationsAreChecked),
             "derivations_are_found" => Some(Routine::DerivationsAreFound),
+            "canonical_forms_are_exact" => Some(Routine::CanonicalFormsAreExact),
             "sorts_are_declared" => Some(Routine::SortsAreDeclared),
             "types_are_built" => Some(Routine::TypesAreBuilt),
             "assumptions_are_folded" => Some(Routine::AssumptionsAreFolded),
@@ -119,6 +124,7 @@ impl Routine {
             Routine::TypesAreUnified => unification::types_are_unified(cx),
             Routine::DerivationsAreChecked => derivations::derivations_are_checked(cx),
             Routine::DerivationsAreFound => derivations::derivations_are_found(cx),
+            Routine::CanonicalFormsAreExact => canonical_forms::canonical_forms_are_exact(cx),
             Routine::SortsAreDeclared => declared::sorts_are_declared(cx),
             Routine::TypesAreBuilt => built::types_are_built(cx),
             Routine::AssumptionsAreFolded => built::assumptions_are_folded(cx),

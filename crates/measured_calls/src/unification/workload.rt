@@ -69,8 +69,8 @@ impl Workload {
     }
 }
 
-// Returns the variable of this number.
-fn variable(cx: &mut Interner, number: u32) -> Result<Ty, Refusal> {
+/// Returns the variable of this number.
+pub fn variable(cx: &mut Interner, number: u32) -> Result<Ty, Refusal> {
     if TyVid::fits(number) {
         ty(cx, TyKind::Infer(InferTy::TyVar(TyVid::from_u32(number))))
     } else {

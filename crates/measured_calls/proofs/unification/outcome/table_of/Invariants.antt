@@ -1,6 +1,6 @@
 use Rattle.tt_interner.specs.Stored.{Extends}
 use Rattle.unify.specs.Bindings.{IsTable}
-use Rattle.unify_pairs.proofs.outcome.table_of.Given as goal
+use Rattle.measured_calls.proofs.unification.outcome.table_of.Given as goal
 
 -- the interner has only grown, and the bindings are a table
 abbrev pub invariant-loop : goal.invariant-loop

@@ -4,7 +4,7 @@ ghost use Rattle.std.specs.Prelude.{IfOk};
 ghost use Rattle.tt_interner.specs.Stored.{Extends};
 ghost use Rattle.unify.specs.Bindings.{IsTable};
 
-use crate::workload::Workload;
+use super::workload::Workload;
 use std::alloc::Global;
 use test_terms::{NOT_OWNED, ty};
 use type_terms::{Interner, Owned, Refusal, Ty, TyKind};
@@ -54,8 +54,8 @@ fn become_one(cx: &mut Interner, variables: u32, left: Ty, right: Ty) -> Result<
     Ok(first == second)
 }
 
-// Returns a table of this many variables.
-fn table_of(cx: &mut Interner, count: u32) -> Result<Bindings, Fault>
+/// Returns a table of this many variables.
+pub fn table_of(cx: &mut Interner, count: u32) -> Result<Bindings, Fault>
     ensures extends { Extends cx.old cx.new }
     ensures table { IfOk result (λ b. IsTable cx.new b) }
 {
@@ -66,8 +66,8 @@ fn table_of(cx: &mut Interner, count: u32) -> Result<Bindings, Fault>
     Ok(bindings)
 }
 
-// Makes the two types equal.
-fn unified(cx: &mut Interner, bindings: &mut Bindings, left: Ty, right: Ty) -> Result<(), Fault>
+/// Makes the two types equal.
+pub fn unified(cx: &mut Interner, bindings: &mut Bindings, left: Ty, right: Ty) -> Result<(), Fault>
     requires { IsTable cx.old bindings.old }
     ensures extends { Extends cx.old cx.new }
     ensures table { IsTable cx.new bindings.new }

@@ -2,7 +2,7 @@ use Rattle.std.proofs.Common.{subst, sym}
 use Rattle.tt_interner.proofs.Growth.{Extends-refl, Extends-trans}
 use Rattle.unify.specs.Bindings.{IsTable}
 use Rattle.unify.proofs.UnificationLaws.{empty_table}
-use Rattle.unify_pairs.proofs.outcome.table_of.Goals as goal
+use Rattle.measured_calls.proofs.unification.outcome.table_of.Goals as goal
 
 pub loop-init : goal.loop-init
 loop-init c = record {
