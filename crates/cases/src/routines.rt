@@ -12,6 +12,7 @@ mod folders;
 mod iterators;
 mod lists;
 mod names;
+mod refutations;
 mod replacers;
 mod unification;
 mod validation;
@@ -51,6 +52,8 @@ pub enum Routine {
     DerivationsAreChecked,
     /// A goal is answered with a log that follows.
     DerivationsAreFound,
+    /// A goal is answered with a refutation, which the check accepts.
+    RefutationsAreFound,
     /// Types that differ in the names of their variables alone have one canonical form.
     CanonicalFormsAreExact,
     /// Each call declares its sort by its name, and once more by another id.
@@ -92,6 +95,7 @@ impl Routine {
             "types_are_unified" => Some(Routine::TypesAreUnified),
             "derivations_are_checked" => Some(Routine::DerivationsAreChecked),
             "derivations_are_found" => Some(Routine::DerivationsAreFound),
+            "refutations_are_found" => Some(Routine::RefutationsAreFound),
             "canonical_forms_are_exact" => Some(Routine::CanonicalFormsAreExact),
             "sorts_are_declared" => Some(Routine::SortsAreDeclared),
             "types_are_built" => Some(Routine::TypesAreBuilt),
@@ -124,6 +128,7 @@ impl Routine {
             Routine::TypesAreUnified => unification::types_are_unified(cx),
             Routine::DerivationsAreChecked => derivations::derivations_are_checked(cx),
             Routine::DerivationsAreFound => derivations::derivations_are_found(cx),
+            Routine::RefutationsAreFound => refutations::refutations_are_found(cx),
             Routine::CanonicalFormsAreExact => canonical_forms::canonical_forms_are_exact(cx),
             Routine::SortsAreDeclared => declared::sorts_are_declared(cx),
             Routine::TypesAreBuilt => built::types_are_built(cx),

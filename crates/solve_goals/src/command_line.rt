@@ -27,10 +27,12 @@ Example:
   clone.goals:7:5: yes
     Vec<T>: Clone, by the `impl` in line 4
       T: Clone, by the assumption in line 5
-  clone.goals:8:5: unknown
+  clone.goals:8:5: no
+    nothing applies to bool: Clone
 
-A yes has a derivation. The answer is `unknown` where no implementation and no assumption applies, `ambiguous` where
-several may, and `overflow` where the search reached a limit: goals nest 64 deep, or 10000 candidates were tried.
+A yes has a derivation, and a no has none. The answer is `unknown` where nothing applies as far as the search saw,
+`ambiguous` where several implementations or assumptions may apply, and `overflow` where the search reached a limit:
+goals nest 64 deep, or 10000 candidates were tried.
 
 The exit status is 0 where all goals are answered, 1 where the text is wrong, and 2 where not all are answered: the
 command line was wrong, the input couldn't be read, the output couldn't be written, or memory was short.";
@@ -43,7 +45,7 @@ pub fn command<'a>(alloc: Global) -> Result<Command<'a>, AllocError> {
     let why = Arg::new(alloc, "why")
         .long("why")
         .action(ArgAction::SetTrue)
-        .help("Prints the derivation of each goal whose answer is yes");
+        .help("Prints the derivation of each yes, and why each no has none");
     let name = Arg::new(alloc, "name").long("name").value_name("NAME").help(
         "What messages and answers call the text, in place of FILE",
     );

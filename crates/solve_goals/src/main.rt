@@ -60,16 +60,11 @@ fn started(rt: &HostRuntime, matches: &ArgMatches) -> io::Result<ExitCode> {
 }
 
 // Answers the goals, and prints the answers or what is wrong.
-fn answered(
-    rt: &HostRuntime,
-    name: &str,
-    source: &str,
-    has_derivations: bool,
-) -> io::Result<ExitCode> {
+fn answered(rt: &HostRuntime, name: &str, source: &str, has_reasons: bool) -> io::Result<ExitCode> {
     let wishes = Wishes {
         name,
         limits: LIMITS,
-        has_derivations,
+        has_reasons,
     };
     match verdict_of(rt.alloc(), source, wishes) {
         Verdict::Answers(lines) => {

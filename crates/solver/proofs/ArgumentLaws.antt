@@ -56,7 +56,7 @@ types_next terms args n a below at is = λ k other less there.
 
 module _ (terms : Terms) (args : GenericArgs) (items : List GenericArgKind) (read : Reads terms.rows ArgLists args.number (args_row items)) where
   -- the arguments that were read are those of the list
-  arguments_read : rows.args_at terms.rows args ≡ items
+  pub arguments_read : rows.args_at terms.rows args ≡ items
   arguments_read = ap rows.row_args read.row
 
   -- their handles name rows

@@ -18,7 +18,7 @@ use Rattle.solver.proofs.AssignLaws.{assign_type, assigned_put, read_assign}
 use Rattle.solver.proofs.ClosedLaws.{HoldNone, assigned_closed, put_closed}
 use Rattle.solver.proofs.OutcomeLaws.{as_many, found_map}
 
-readings_change : (f : Tree Depth → Tree Depth) (g : Tree Place → Tree Place) → ((t : Tree Depth) → read 0 (f t) ≡ g (read 0 t))
+pub readings_change : (f : Tree Depth → Tree Depth) (g : Tree Place → Tree Place) → ((t : Tree Depth) → read 0 (f t) ≡ g (read 0 t))
     → (args : List (Argument Depth)) → readings (change_values f args) ≡ change_values g (readings args)
 readings_change f g h [] = refl
 readings_change f g h (a ∷ args) = rw (h a.value, readings_change f g h args) refl

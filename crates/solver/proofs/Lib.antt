@@ -4,8 +4,11 @@ pub mod AssignLaws
 pub mod ClosedLaws
 pub mod DerivationExamples
 pub mod DerivationLaws
+pub mod EquationLaws
+pub mod HeadLaws
 pub mod LogLaws
 pub mod OutcomeLaws
 pub mod ProgramLaws
+pub mod RefutationLaws
 pub mod SearchLaws
 pub mod WrittenLaws

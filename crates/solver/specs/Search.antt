@@ -12,7 +12,7 @@ use Rattle.unify.specs.Bindings.{IsRefined, KeepsEarlier, Table, substitution}
 use Rattle.unify.specs.Substitution.{Substitution, apply}
 use Rattle.solver.specs.declared.candidates.Head.{Head}
 use Rattle.solver.specs.declared.solver.Answer.{Answer}
-use Rattle.solver.specs.declared.solver.Answer.TheVariants.{Yes}
+use Rattle.solver.specs.declared.solver.Answer.TheVariants.{No, Yes}
 
 -- the interner and the table only grew: the table keeps its bindings, and what it was wherever it is rolled back to
 pub record Continues (terms : Terms) (b : Table) (later : Terms) (grown : Table) : Type 0 where
@@ -38,3 +38,8 @@ goal_under later b terms goal = read 0 (apply (substitution later b) (tree_by tr
 abbrev pub IsYesAnswer : Answer → Type 0
 IsYesAnswer (Yes log) = ⊤
 IsYesAnswer _ = ⊥
+
+-- the answer is no
+abbrev pub IsNoAnswer : Answer → Type 0
+IsNoAnswer (No goals) = ⊤
+IsNoAnswer _ = ⊥

@@ -1,12 +1,26 @@
 //! Goals whose types hold inference variables.
 
-ghost use Rattle.std.specs.Prelude.{◌≡◌, IfOk, IfSome, length};
+ghost use Rattle.std.specs.Prelude.{◌≡◌, ◌+◌, IfOk, IfSome, IsSome, OnOk, length};
+ghost use Rattle.tt_kinds.specs.GenericArg.{type_of};
 ghost use Rattle.tt_kinds.specs.Kinds.{arg_shape, args_shape};
+ghost use Rattle.tt_kinds.specs.Label.{type_sort};
 ghost use Rattle.tt_kinds.specs.Values.{trait_predicate_shape};
+ghost use Rattle.tt_interner.specs.Arguments.{argument_of};
 ghost use Rattle.tt_interner.specs.Owned.{AreOwned, IsOwned, tree_by, tree_in};
 ghost use Rattle.tt_interner.specs.Stored.{Extends};
-ghost use Rattle.unify.specs.Bindings.{IsTable, substitution};
-ghost use Rattle.unify.specs.Substitution.{apply};
+ghost use Rattle.unify.specs.Bindings.{IsTable, substitution, with_variable};
+ghost use Rattle.unify.specs.Substitution.{apply, variable_tree, Assignment, Solves};
+ghost use Rattle.solver.specs.Derivations.{instance_of};
+ghost use Rattle.solver.specs.Program.{argument_trees, goal_in};
+ghost use Rattle.solver.specs.Refutation.{
+  AreTypes,
+  EquatesArgs,
+  EquatesGoals,
+  EquatesItems,
+  IsForced,
+  IsOfTypes,
+  variables_from,
+};
 ghost use Rattle.solver.specs.Search.{ArePlain, Continues};
 
 use tt_binder::Instantiate;
@@ -121,7 +135,13 @@ pub fn unify_goals(
     requires table { IsTable cx.old bindings.old }
     requires left { IsOwned trait_predicate_shape cx.old left }
     requires right { IsOwned trait_predicate_shape cx.old right }
-    ensures { Continues cx.old bindings.old cx.new bindings.new }
+    ensures continues { Continues cx.old bindings.old cx.new bindings.new }
+    ensures forced { IfOk result (λ found. IsOfTypes cx.old left → IsOfTypes cx.old right → IsForced
+        (length bindings.old.entries)
+        (substitution cx.old bindings.old)
+        (EquatesGoals cx.old left right)
+        found
+        (substitution cx.new bindings.new)) }
 {
     if left.trait_ref.def_id != right.trait_ref.def_id {
         return Ok(false);
@@ -142,7 +162,14 @@ fn unify_items(
     requires table { IsTable cx.old bindings.old }
     requires lefts { AreOwned arg_shape cx.old lefts.now }
     requires rights { AreOwned arg_shape cx.old rights.now }
-    ensures { Continues cx.old bindings.old cx.new bindings.new }
+    ensures continues { Continues cx.old bindings.old cx.new bindings.new }
+    ensures forced { IfOk result (λ found. AreTypes lefts.now → AreTypes rights.now
+        → length lefts.now ≡ length rights.now → IsForced
+        (length bindings.old.entries)
+        (substitution cx.old bindings.old)
+        (EquatesItems cx.old lefts.now rights.now)
+        found
+        (substitution cx.new bindings.new)) }
 {
     if lefts.len() != rights.len() {
         return Ok(false);
@@ -166,7 +193,13 @@ fn unify_arg(
     requires table { IsTable cx.old bindings.old }
     requires left { IsOwned arg_shape cx.old left }
     requires right { IsOwned arg_shape cx.old right }
-    ensures { Continues cx.old bindings.old cx.new bindings.new }
+    ensures continues { Continues cx.old bindings.old cx.new bindings.new }
+    ensures forced { IfOk result (λ found. IsSome (type_of left) → IsSome (type_of right) → IsForced
+        (length bindings.old.entries)
+        (substitution cx.old bindings.old)
+        (EquatesArgs cx.old left right)
+        found
+        (substitution cx.new bindings.new)) }
 {
     match (left.as_type(), right.as_type()) {
         (Some(left), Some(right)) => match unify(cx, bindings, left, right) {
@@ -188,6 +221,11 @@ pub fn fresh_args(
     requires { IsTable cx.old bindings.old }
     ensures continues { Continues cx.old bindings.old cx.new bindings.new }
     ensures owned { IfOk result (λ args. IsOwned args_shape cx.new args) }
+    ensures are { IfOk result
+        (λ args. argument_trees cx.new args ≡ variables_from (length bindings.old.entries) count) }
+    ensures solved { OnOk result ((ρ : Assignment) → Solves ρ (substitution cx.old bindings.old)
+        → Solves ρ (substitution cx.new bindings.new)) }
+    ensures counted { OnOk result (length bindings.new.entries ≡ length bindings.old.entries + count) }
 {
     let mut items = Vec::new(cx.allocator());
     for _ in 0..count {
@@ -203,9 +241,16 @@ fn new_variable(cx: &mut Interner, bindings: &mut Bindings) -> Result<GenericArg
     requires { IsTable cx.old bindings.old }
     ensures continues { Continues cx.old bindings.old cx.new bindings.new }
     ensures owned { IfOk result (λ arg. IsOwned arg_shape cx.new arg) }
+    ensures pushed { OnOk result (bindings.new ≡ with_variable bindings.old) }
+    ensures is { IfOk result (λ arg. argument_of cx.new.rows arg
+        ≡ record { sort = type_sort; value = variable_tree (length bindings.old.entries) }) }
 {
     match bindings.new_variable(cx) {
-        Ok(ty) => Ok(GenericArg::from(ty)),
+        Ok(ty) => {
+            // A variable has no parts.
+            cx.are_rows();
+            Ok(GenericArg::from(ty))
+        }
         Err(Fault::Refused(refusal)) => Err(refusal),
         // A new variable is refused for room alone.
         Err(_) => unreachable!(),
@@ -239,6 +284,8 @@ pub fn instance(
     requires goal { IsOwned trait_predicate_shape cx.old goal }
     ensures extends { Extends cx.old cx.new }
     ensures owned { IfOk result (λ new. IsOwned trait_predicate_shape cx.new new) }
+    ensures plain { IfOk result (λ new. goal_in cx.new new
+        ≡ instance_of (argument_trees cx.old args) (goal_in cx.old goal)) }
 {
     Ok(
         EarlyBinder::bind(goal)

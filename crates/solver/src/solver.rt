@@ -5,22 +5,26 @@ ghost use Rattle.tt_kinds.specs.Values.{trait_predicate_shape};
 ghost use Rattle.tt_interner.specs.Owned.{AreOwned, IsOwned};
 ghost use Rattle.tt_interner.specs.Stored.{Extends};
 ghost use Rattle.unify.specs.Bindings.{IsRefined, IsTable, KeepsEarlier};
-ghost use Rattle.solver.specs.Answers.{IsYes};
+ghost use Rattle.solver.specs.Answers.{IsNo, IsYes};
 ghost use Rattle.solver.specs.Derivations.{Derives};
 ghost use Rattle.solver.specs.Program.{goals_in, impls_in, IsProgram};
-ghost use Rattle.solver.specs.Search.{IsYesAnswer, goal_under};
+ghost use Rattle.solver.specs.Search.{Continues, IsNoAnswer, IsYesAnswer, goal_under};
 
 use crate::candidates::Known;
 use crate::fault::Fault;
 use crate::goals::resolved_goal;
 use crate::log::{Line, are_owned_lines};
 use crate::program::Program;
+use crate::refutation::{place_of, refute};
+use crate::refuter::refutation_of;
 use crate::resolved::resolved_lines;
 use crate::search::{Search, Verdict};
 use crate::verifier::verify;
 use std::mem;
 use tt_interner::Interner;
 use tt_kinds::TraitPredicate;
+use tt_owned::are_owned;
+use tt_visit::TypeVisitableExt;
 use unify::Bindings;
 
 /// How deep goals may nest, at most: a goal in a call of [`solve`] has depth 1, and its conditions depth 2. Each level
@@ -42,7 +46,11 @@ pub enum Answer {
     /// The goal is derived, whatever types the variables become that are not bound. The log derives the goal in its last
     /// line.
     Yes(Vec<Line>),
-    /// No assumption and no implementation applies, as far as the search saw. Nothing is proved of this answer.
+    /// The goal has no derivation, whatever types the variables become that are not bound. The list is a refutation, the
+    /// goal first: none of its goals is derived, since each needs one of them wherever an implementation applies.
+    No(Vec<TraitPredicate>),
+    /// No assumption and no implementation applies, as far as the search saw, and no refutation was found. Nothing is proved
+    /// of this answer.
     Unknown,
     /// Several assumptions or implementations may apply, or the types are not known well enough.
     Ambiguous,
@@ -85,14 +93,96 @@ fn log_of(
     }
 }
 
-// Returns the answer to a goal that isn't derived.
+// Returns the answer to a goal for which the search finds no candidate: no if the search finds a refutation, too.
+#[tactic(auto, using(crate::proofs::SearchLaws::search_laws))]
+fn no_of(
+    cx: &mut Interner,
+    known: Known<'_>,
+    search: &mut Search,
+    goal: TraitPredicate,
+    depth: u32,
+) -> Result<Answer, Fault>
+    requires program { IsProgram cx.old known.program.now }
+    requires assumptions { AreOwned trait_predicate_shape cx.old known.assumptions.now }
+    requires table { IsTable cx.old search.old.bindings }
+    requires goal { IsOwned trait_predicate_shape cx.old goal }
+    ensures continues { Continues cx.old search.old.bindings cx.new search.new.bindings }
+    ensures no { IfOk result (λ answer. IsNoAnswer answer → IsNo
+        (impls_in cx.old known.entry.program.now)
+        (goals_in cx.old known.entry.assumptions.now)
+        (goal_under cx.old search.old.bindings cx.old goal)) }
+    ensures unproved { IfOk result (λ answer. IsYesAnswer answer → ⊥) }
+{
+    let Some(resolved) = resolved_goal(cx, &search.bindings, goal)? else {
+        return Ok(Answer::Unknown);
+    };
+    if resolved.has_infer(cx) {
+        return Ok(Answer::Unknown);
+    }
+    let Some(goals) = refutation_of(cx, known, search, resolved, depth)? else {
+        return Ok(Answer::Unknown);
+    };
+    // What was made in this interner is of this interner.
+    if !are_owned(cx, goals.as_slice()) {
+        return Ok(Answer::Unknown);
+    }
+    let Some(_place) = place_of(cx, goals.as_slice(), resolved) else {
+        return Ok(Answer::Unknown);
+    };
+    match refute(cx, known.program, known.assumptions, goals.as_slice()) {
+        Ok(()) => Ok(Answer::No(goals)),
+        Err(Fault::Refused(refusal)) => Err(Fault::Refused(refusal)),
+        Err(_) => Ok(Answer::Unknown),
+    }
+}
+
+// Returns the answer to a goal on which the verdict is neither yes nor no.
 fn unproved(verdict: Verdict) -> Answer
-    ensures { IsYesAnswer result → ⊥ }
+    ensures yes { IsYesAnswer result → ⊥ }
+    ensures no { IsNoAnswer result → ⊥ }
 {
     match verdict {
-        Verdict::No => Answer::Unknown,
         Verdict::Overflow => Answer::Overflow,
         _ => Answer::Ambiguous,
+    }
+}
+
+// Searches for a derivation of the goal, and for a refutation if no candidate applies.
+#[tactic(auto, using(crate::proofs::SearchLaws::search_laws))]
+fn answer_of(
+    cx: &mut Interner,
+    known: Known<'_>,
+    search: &mut Search,
+    goal: TraitPredicate,
+    depth: u32,
+) -> Result<Answer, Fault>
+    requires program { IsProgram cx.old known.program.now }
+    requires assumptions { AreOwned trait_predicate_shape cx.old known.assumptions.now }
+    requires table { IsTable cx.old search.old.bindings }
+    requires goal { IsOwned trait_predicate_shape cx.old goal }
+    ensures continues { Continues cx.old search.old.bindings cx.new search.new.bindings }
+    ensures yes { IfOk result (λ answer. IsYesAnswer answer → Derives
+        (impls_in cx.old known.entry.program.now)
+        (goals_in cx.old known.entry.assumptions.now)
+        (goal_under cx.new search.new.bindings cx.old goal)) }
+    ensures no { IfOk result (λ answer. IsNoAnswer answer → IsNo
+        (impls_in cx.old known.entry.program.now)
+        (goals_in cx.old known.entry.assumptions.now)
+        (goal_under cx.old search.old.bindings cx.old goal)) }
+{
+    let begin = search.bindings.snapshot();
+    match search.solve_goal(cx, known, goal, depth) {
+        Ok(Verdict::Yes(_)) => match log_of(cx, known, search, goal) {
+            Ok(log) => Ok(Answer::Yes(log)),
+            Err(fault) => Err(fault),
+        },
+        Ok(Verdict::No) => {
+            // The answer is about the bindings from before the search.
+            search.bindings.rollback_to(begin);
+            no_of(cx, known, search, goal, depth)
+        }
+        Ok(verdict) => Ok(unproved(verdict)),
+        Err(refusal) => Err(Fault::Refused(refusal)),
     }
 }
 
@@ -103,6 +193,9 @@ fn unproved(verdict: Verdict) -> Answer
 /// Otherwise the answer is yes if one candidate applies and no other may. A goal that is a condition of itself is not
 /// derived from itself. A goal with a constant that holds an inference variable is ambiguous, and so is a goal to which an
 /// assumption with an inference variable may apply.
+///
+/// If no candidate applies, the answer is no where a refutation is found that [`refute`](crate::refute) accepts. Otherwise it
+/// is unknown, as for goals and assumptions with inference variables, and for arguments that aren't types.
 ///
 /// # Errors
 ///
@@ -130,6 +223,10 @@ pub fn solve(
         (impls_in cx.old program.now)
         (goals_in cx.old assumptions.now)
         (goal_under cx.new bindings.new cx.old goal)) }
+    ensures no { IfOk result (λ answer. IsNoAnswer answer → IsNo
+        (impls_in cx.old program.now)
+        (goals_in cx.old assumptions.now)
+        (goal_under cx.old bindings.old cx.old goal)) }
     ensures same { IfOk result (λ answer. (IsYesAnswer answer → ⊥) → bindings.new ≡ bindings.old) }
     ensures undone { OnErr result (bindings.new ≡ bindings.old) }
 {
@@ -145,18 +242,12 @@ pub fn solve(
     let mark = bindings.snapshot();
     let taken = mem::replace(bindings, Bindings::new(cx.allocator()));
     let mut search = Search::new(cx, taken, limits.steps);
-    let rest = match search.solve_goal(cx, known, goal, depth) {
-        Ok(Verdict::Yes(_)) => match log_of(cx, known, &search, goal) {
-            Ok(log) => {
-                *bindings = search.bindings;
-                return Ok(Answer::Yes(log));
-            }
-            Err(fault) => Err(fault),
-        },
-        Ok(verdict) => Ok(unproved(verdict)),
-        Err(refusal) => Err(Fault::Refused(refusal)),
-    };
+    let answer = answer_of(cx, known, &mut search, goal, depth);
+    if let Ok(Answer::Yes(_)) = &answer {
+        *bindings = search.bindings;
+        return answer;
+    }
     search.bindings.rollback_to(mark);
     *bindings = search.bindings;
-    rest
+    answer
 }

@@ -8,6 +8,7 @@ use crate::declared::{Declared, declare, name_of, program_of};
 use crate::derivations::write_derivation;
 use crate::failure::Failure;
 use crate::goals::{goal_of, goals_of};
+use crate::refutations::write_refutation;
 use crate::texts::{Variables, write_type};
 use solver::{Answer, Limits, Program, solve};
 use solver_syntax::script::{Goal, Group, Script};
@@ -24,8 +25,8 @@ pub struct Wishes<'a> {
     pub name: &'a str,
     /// How far to search.
     pub limits: Limits,
-    /// Whether the derivations are written.
-    pub has_derivations: bool,
+    /// Whether derivations and refutations are written.
+    pub has_reasons: bool,
 }
 
 // What goals are asked in.
@@ -108,7 +109,7 @@ fn write_group(
     Ok(())
 }
 
-// Writes the answer to a goal, and its derivation if it is asked for.
+// Writes the answer to a goal, and the reason if it is asked for.
 #[tactic(auto, using(crate::proofs::GrowthLaws::growth_laws))]
 fn write_answer(
     cx: &mut Interner,
@@ -136,16 +137,33 @@ fn write_answer(
         place.column,
         word_of(&answer)
     )?;
-    let Answer::Yes(log) = &answer else {
-        text.push('\n')?;
-        return Ok(());
-    };
     write_bindings(cx, text, &mut names, variables.as_slice(), bound.as_slice())?;
-    if question.wishes.has_derivations {
-        let script = question.script;
-        write_derivation(cx, text, &mut names, script, group, log.as_slice())?;
+    write_reason(cx, text, &mut names, question, group, &answer)
+}
+
+// Writes the derivation below a yes, and the refutation below a no, if these are asked for.
+fn write_reason(
+    cx: &mut Interner,
+    text: &mut String,
+    names: &mut Variables<'_>,
+    question: Question<'_>,
+    group: &Group,
+    answer: &Answer,
+) -> Result<(), Failure>
+    ensures { Extends cx.old cx.new }
+{
+    if !question.wishes.has_reasons {
+        return Ok(());
     }
-    Ok(())
+    let script = question.script;
+    match answer {
+        Answer::Yes(log) => write_derivation(cx, text, names, script, group, log.as_slice()),
+        Answer::No(goals) => {
+            let goals = goals.as_slice();
+            write_refutation(cx, text, names, script, question.program, goals)
+        }
+        _ => Ok(()),
+    }
 }
 
 // Returns the goal's answer.
@@ -231,6 +249,7 @@ fn names_of<'a>(cx: &Interner, script: &'a Script, goal: &Goal) -> Result<Variab
 fn word_of(answer: &Answer) -> &'static str {
     match answer {
         Answer::Yes(_) => "yes",
+        Answer::No(_) => "no",
         Answer::Unknown => "unknown",
         Answer::Ambiguous => "ambiguous",
         Answer::Overflow => "overflow",

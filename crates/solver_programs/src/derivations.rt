@@ -100,8 +100,8 @@ fn write_reason(
     }
 }
 
-// Writes what is at this place.
-fn write_place(text: &mut String, what: &str, place: Place) -> Result<(), Failure> {
+/// Writes what is at this place, which a goal is derived or needed by.
+pub fn write_place(text: &mut String, what: &str, place: Place) -> Result<(), Failure> {
     let line = place.line;
     writeln!(text, ", by {what} in line {line}")?;
     Ok(())

@@ -8,6 +8,7 @@ mod declared;
 mod derivations;
 mod failure;
 mod goals;
+mod refutations;
 mod sources;
 mod texts;
 mod types;

@@ -60,7 +60,7 @@ fn report_of(alloc: Global, message: Message) -> Report {
     }
 }
 
-/// Reads a source from the input, and writes the answers with their derivations to the output, or what is wrong, as the
+/// Reads a source from the input, and writes the answers with their reasons to the output, or what is wrong, as the
 /// program with `--why` does. Returns whether all goals were answered.
 pub fn run<R: Read + Drop, W: Write + Drop>(
     alloc: Global,
@@ -71,7 +71,7 @@ pub fn run<R: Read + Drop, W: Write + Drop>(
     let wishes = Wishes {
         name: "<stdin>",
         limits: LIMITS,
-        has_derivations: true,
+        has_reasons: true,
     };
     let is_answered = match verdict_of(alloc, source.as_str(), wishes) {
         Verdict::Answers(lines) => {

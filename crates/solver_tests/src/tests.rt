@@ -1,7 +1,8 @@
-//! Implementations that can be declared or not, and logs that follow from them or not.
+//! Implementations that can be declared or not, logs that follow from them or not, and refutations.
 
 mod declared;
 mod logs;
+mod refutations;
 mod solving;
 
 ghost use Rattle.tt_interner.specs.Stored.{Extends};

@@ -12,8 +12,12 @@ use type_terms::{
 };
 use unify::Bindings;
 
-// Returns that the type implements the trait of this number.
-fn implements_trait(cx: &mut Interner, number: u32, ty: Ty) -> Result<TraitPredicate, Refusal> {
+/// Returns that the type implements the trait of this number.
+pub(super) fn implements_trait(
+    cx: &mut Interner,
+    number: u32,
+    ty: Ty,
+) -> Result<TraitPredicate, Refusal> {
     Ok(TraitPredicate {
         trait_ref: TraitRef {
             def_id: TraitId::from_number(number),
@@ -96,8 +100,8 @@ pub fn derivations_are_checked(cx: &mut Interner) -> Result<bool, Refusal> {
     }
 }
 
-// Returns `impl<T> Trait0 for [..] where ..`, for the items of the slice type and the type that has to implement trait 1.
-fn slice_implements(cx: &mut Interner, items: Ty) -> Result<Impl, Refusal> {
+/// Returns `impl<T> Trait0 for [..] where ..`, for the items of the slice type and the type that has to implement trait 1.
+pub(super) fn slice_implements(cx: &mut Interner, items: Ty) -> Result<Impl, Refusal> {
     let whole = ty(cx, TyKind::Slice(items))?;
     let condition = implements_trait(cx, 1, items)?;
     Ok(Impl {
@@ -107,8 +111,8 @@ fn slice_implements(cx: &mut Interner, items: Ty) -> Result<Impl, Refusal> {
     })
 }
 
-// Declares the three implementations.
-fn declare_all(
+/// Declares the three implementations.
+pub(super) fn declare_all(
     cx: &mut Interner,
     program: &mut Program,
     first: Impl,

@@ -16,12 +16,13 @@ use test_terms::{
     NOT_OWNED, bound_region, bound_ty, clause, clauses, is_instance, is_shifted, one_region,
     param_region, param_ty, predicate, ref_ty, region_variable, ty, tys, u32_ty,
 };
+use tt_owned::IsTested;
 use type_terms::{
     AsPredicate, Binder, BoundVarKinds, Clause, ClauseKind, Clauses, ClonesTree, Const, Core,
-    ErrorGuaranteed, FallibleTypeFolder, GenericArg, Handle, HasHook, InternedKind, Interner,
-    IsWalked, Kind, Next, Owned, Predicate, PredicateKind, Refusal, Region, RegionKind, Step, Term,
-    Ty, TyKind, TypeFoldable, TypeFolder, TypeSuperFoldable, TypeSuperVisitable, TypeVisitable,
-    TypeVisitor, Tys, visit_kind, visit_stored,
+    ErrorGuaranteed, FallibleTypeFolder, GenericArg, Handle, HasHook, InternedKind, Interner, Kind,
+    Next, Owned, Predicate, PredicateKind, Refusal, Region, RegionKind, Step, Term, Ty, TyKind,
+    TypeFoldable, TypeFolder, TypeSuperFoldable, TypeSuperVisitable, TypeVisitable, TypeVisitor,
+    Tys, visit_kind, visit_stored,
 };
 
 // Counts the regions outside of errors, and breaks at an error.
@@ -112,13 +113,13 @@ fn regions_inside<T: Owned + TypeSuperVisitable>(
     Ok(counted(outcome, &visitor))
 }
 
-// Returns the count of regions in the term or the list of a handle, which may be of any mark that visits follow.
-fn regions_at<K: IsWalked>(cx: &Interner, handle: Handle<K>) -> Result<Result<u64, u32>, Refusal> {
+// Returns the count of regions in the term or the list of a handle, which may be of any mark that a test of handles follows.
+fn regions_at<K: IsTested>(cx: &Interner, handle: Handle<K>) -> Result<Result<u64, u32>, Refusal> {
     regions_in(cx, &handle)
 }
 
 // Returns the same without the term's own hook.
-fn regions_inside_at<K: HasHook>(
+fn regions_inside_at<K: HasHook + IsTested>(
     cx: &Interner,
     handle: Handle<K>,
 ) -> Result<Result<u64, u32>, Refusal> {

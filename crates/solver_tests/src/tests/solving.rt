@@ -6,17 +6,18 @@ ghost use Rattle.unify.specs.Bindings.{IsTable};
 
 use super::{declare, holds_anew, slice};
 use solver::{Answer, Fault, Impl, Limits, Program, solve};
-use test_terms::{NOT_OWNED, args, param_ty, ty, u32_ty};
+use test_terms::{NOT_OWNED, args, param_ty, tuple, ty, u32_ty};
 use type_terms::{
     GenericArg, InferTy, Interner, Owned, Refusal, TraitId, TraitPredicate, TraitRef, Ty, TyKind,
     TyVid, are_owned,
 };
-use unify::Bindings;
+use unify::{Bindings, unify};
 
-// What is known of a goal, with the number of the lines in a log.
+// What is known of a goal, with the number of the lines in a log or of the goals in a refutation.
 #[derive(Clone, Copy, Debug, PartialEq, Eq, Drop)]
 enum Found {
     Yes(usize),
+    No(usize),
     Unknown,
     Ambiguous,
     Overflow,
@@ -111,6 +112,7 @@ fn solved(
     let answer = solve(cx, &program, &assumptions, &mut bindings, goal, limits)?;
     let found = match &answer {
         Answer::Yes(log) => Found::Yes(log.len()),
+        Answer::No(goals) => Found::No(goals.len()),
         Answer::Unknown => Found::Unknown,
         Answer::Ambiguous => Found::Ambiguous,
         Answer::Overflow => Found::Overflow,
@@ -151,7 +153,7 @@ fn with_slices(cx: &mut Interner, item: Ty) -> Result<(Ty, Ty), Refusal> {
     Ok((variable, slice(cx, items)?))
 }
 
-// [[u32]] takes three lines, and [[T]] three, of which the first is the assumption. [[bool]] has no derivation.
+// [[u32]] takes three lines, and [[T]] three, of which the first is the assumption. [[bool]] needs [bool], which needs bool.
 fn slices_are_derived_holds(cx: &mut Interner) -> Result<bool, Refusal> {
     let (param, number) = (param_ty(cx, 0)?, u32_ty(cx)?);
     let truth = ty(cx, TyKind::Bool)?;
@@ -162,7 +164,7 @@ fn slices_are_derived_holds(cx: &mut Interner) -> Result<bool, Refusal> {
     Ok(
         finds(cx, first, numbers, FAR, (variable, Found::Yes(3)))?
             && finds(cx, second, params, FAR, (variable, Found::Yes(3)))?
-            && finds(cx, third, truths, FAR, (variable, Found::Unknown))?,
+            && finds(cx, third, truths, FAR, (variable, Found::No(3)))?,
     )
 }
 
@@ -222,7 +224,7 @@ fn later_conditions_decide(rt: HostRuntime) {
     holds_anew(&rt, rt.alloc(), later_conditions_decide_holds);
 }
 
-// A slice type that needs itself has no derivation. One that needs a larger one is searched for up to the limit.
+// A slice type that needs itself has no derivation, and refutes itself. One that needs a larger one is searched for up to the limit.
 fn limits_end_searches_holds(cx: &mut Interner) -> Result<bool, Refusal> {
     let (param, number) = (param_ty(cx, 0)?, u32_ty(cx)?);
     let (variable, numbers) = with_slices(cx, number)?;
@@ -237,7 +239,7 @@ fn limits_end_searches_holds(cx: &mut Interner) -> Result<bool, Refusal> {
     let shallow = Limits { depth: 2, ..FAR };
     let short = Limits { steps: 2, ..FAR };
     Ok(
-        finds(cx, cyclic, numbers, FAR, (variable, Found::Unknown))?
+        finds(cx, cyclic, numbers, FAR, (variable, Found::No(1)))?
             && finds(cx, growing, numbers, FAR, (variable, Found::Overflow))?
             && finds(cx, first, numbers, shallow, (variable, Found::Overflow))?
             && finds(cx, second, numbers, short, (variable, Found::Overflow))?,
@@ -247,4 +249,131 @@ fn limits_end_searches_holds(cx: &mut Interner) -> Result<bool, Refusal> {
 #[test]
 fn limits_end_searches(rt: HostRuntime) {
     holds_anew(&rt, rt.alloc(), limits_end_searches_holds);
+}
+
+// Returns `impl<T> Trait1 for [T] where T: Trait2` and `impl<T> Trait2 for T where [T]: Trait1`.
+fn of_circles(cx: &mut Interner) -> Result<Vec<Impl>, Refusal> {
+    let param = param_ty(cx, 0)?;
+    let whole = slice(cx, param)?;
+    let mut impls = Vec::new(cx.allocator());
+    let first = implementation(cx, 1, whole, &[(2, param)])?;
+    impls.push(first)?;
+    let second = implementation(cx, 2, param, &[(1, whole)])?;
+    impls.push(second)?;
+    Ok(impls)
+}
+
+// Returns whether the answer to the goal that the type implements trait 2 is this one, if the assumption is about trait 1.
+fn finds_in_circles(
+    cx: &mut Interner,
+    goal: Ty,
+    assumed: Ty,
+    expected: Found,
+) -> Result<bool, Refusal> {
+    let impls = of_circles(cx)?;
+    let variable = ty(cx, TyKind::Infer(InferTy::TyVar(TyVid::from_u32(0))))?;
+    let assumption = implements(cx, 1, assumed)?;
+    let goal = implements(cx, 2, goal)?;
+    Ok(solved(cx, impls, assumption, goal, FAR) == Ok((variable, expected)))
+}
+
+// u32 needs [u32], which needs u32: neither is derived, unless [u32] is assumed.
+fn circles_derive_nothing_holds(cx: &mut Interner) -> Result<bool, Refusal> {
+    let (param, number) = (param_ty(cx, 0)?, u32_ty(cx)?);
+    let numbers = slice(cx, number)?;
+    Ok(
+        finds_in_circles(cx, number, param, Found::No(2))?
+            && finds_in_circles(cx, number, numbers, Found::Yes(2))?,
+    )
+}
+
+#[test]
+fn circles_derive_nothing(rt: HostRuntime) {
+    holds_anew(&rt, rt.alloc(), circles_derive_nothing_holds);
+}
+
+// Nothing applies to (?0, ?0), but ?0 may be any type, so the answer is unknown. So is the one on [[char]] where (?0, ?0) is
+// assumed. Where T is assumed, char is refuted.
+fn variables_are_not_refuted_holds(cx: &mut Interner) -> Result<bool, Refusal> {
+    let letter = ty(cx, TyKind::Char)?;
+    let (variable, wholes) = with_slices(cx, letter)?;
+    let (first, second, third) = (of_slices(cx)?, of_slices(cx)?, of_slices(cx)?);
+    let pair = tuple(cx, &[variable, variable])?;
+    let assumption = implements(cx, 0, pair)?;
+    let goal = implements(cx, 0, wholes)?;
+    Ok(
+        finds(cx, first, pair, FAR, (variable, Found::Unknown))?
+            && finds(cx, second, letter, FAR, (variable, Found::No(1)))?
+            && solved(cx, third, assumption, goal, FAR) == Ok((variable, Found::Unknown)),
+    )
+}
+
+#[test]
+fn variables_are_not_refuted(rt: HostRuntime) {
+    holds_anew(&rt, rt.alloc(), variables_are_not_refuted_holds);
+}
+
+// Returns the answer to the goal where the variable is bound to the type, and whether the variable still is.
+fn solved_where(
+    cx: &mut Interner,
+    program: &Program,
+    goal: TraitPredicate,
+    bound: Ty,
+) -> Result<(Answer, bool), Fault>
+    requires { IsProgram cx.old program.now }
+{
+    let mut bindings = Bindings::new(cx.allocator());
+    let variable = match bindings.new_variable(cx) {
+        Ok(variable) => variable,
+        Err(_) => return Err(Fault::Unverified),
+    };
+    if !bound.is_owned(cx) || unify(cx, &mut bindings, variable, bound).is_err() {
+        return Err(Fault::Unverified);
+    }
+    if !goal.is_owned(cx) {
+        return Err(Fault::Refused(NOT_OWNED));
+    }
+    let answer = solve(cx, program, &[], &mut bindings, goal, FAR)?;
+    if !variable.is_owned(cx) {
+        return Err(Fault::Refused(NOT_OWNED));
+    }
+    let resolved = bindings.resolve(cx, variable)?;
+    Ok((answer, resolved == bound))
+}
+
+// Returns the refutation of a goal where ?0 is bound, and the binding stays.
+fn refuted_where(
+    cx: &mut Interner,
+    impls: Vec<Impl>,
+    goal: TraitPredicate,
+    bound: Ty,
+) -> Result<Option<Vec<TraitPredicate>>, Fault> {
+    let mut program = Program::new(cx.allocator());
+    let declared = declare_all(cx, &mut program, impls);
+    if let Err(fault) = declared {
+        return Err(fault);
+    }
+    match solved_where(cx, &program, goal, bound)? {
+        (Answer::No(goals), true) => Ok(Some(goals)),
+        _ => Ok(None),
+    }
+}
+
+// [?0] is refuted where ?0 is bool: by [bool], which needs bool.
+fn goals_are_refuted_under_bindings_holds(cx: &mut Interner) -> Result<bool, Refusal> {
+    let truth = ty(cx, TyKind::Bool)?;
+    let variable = ty(cx, TyKind::Infer(InferTy::TyVar(TyVid::from_u32(0))))?;
+    let (open, truths) = (slice(cx, variable)?, slice(cx, truth)?);
+    let impls = of_slices(cx)?;
+    let goal = implements(cx, 0, open)?;
+    let expected = [implements(cx, 0, truths)?, implements(cx, 0, truth)?];
+    match refuted_where(cx, impls, goal, truth) {
+        Ok(Some(goals)) => Ok(goals.as_slice() == expected.as_slice()),
+        _ => Ok(false),
+    }
+}
+
+#[test]
+fn goals_are_refuted_under_bindings(rt: HostRuntime) {
+    holds_anew(&rt, rt.alloc(), goals_are_refuted_under_bindings_holds);
 }

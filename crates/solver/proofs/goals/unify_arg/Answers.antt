@@ -1,5 +1,5 @@
 use Rattle.solver.proofs.SearchLaws.{continues_itself}
 use Rattle.solver.proofs.goals.unify_arg.Goals as goal
 
-pub returns-in_default : goal.returns-in_default
-returns-in_default c = continues_itself c.requires.table
+pub returns-in_default-clause-continues : goal.returns-in_default-clause-continues
+returns-in_default-clause-continues c = continues_itself c.requires.table

@@ -6,7 +6,8 @@ use Rattle.tt_interner.proofs.Growth.{Extends-trans}
 use Rattle.unify.specs.Bindings.{substitution}
 use Rattle.unify.specs.Substitution.{apply}
 use Rattle.unify.proofs.UnificationLaws.{table_stays}
-use Rattle.solver.proofs.AnswerLaws.{log_derives}
+use Rattle.solver.specs.Derivations.{Derives}
+use Rattle.solver.proofs.AnswerLaws.{resolved_holds}
 use Rattle.solver.proofs.ProgramLaws.{program_stays}
 use Rattle.solver.proofs.solver.log_of.Goals as goal
 
@@ -34,6 +35,6 @@ returns-in-Some-clause-derived c =
     let listed : slice_get c.deref.result.now k ≡ Some line = sym c.in-Some.ensures.value in
     let there : slice_get c.as_slice-3.result.now k ≡ Some line =
     ap (λ xs. slice_get xs k) (c.as_slice-3.ensures.value ∙ sym c.deref.ensures.value) ∙ listed in
-    log_derives old between later x c.args.known.program.now c.args.known.assumptions.now c.args.goal line.goal
+    resolved_holds Derives old between later x c.args.known.program.now c.args.known.assumptions.now c.args.goal line.goal
     c.resolved_goal.ensures.extends c.resolved_lines.ensures c.requires.program c.requires.assumptions mine plain
     (c.in-Ok.ensures.derived k line there)

@@ -1,81 +1,72 @@
-use Rattle.std.proofs.Common.{◌≡◌, sym, ◌∙◌, subst}
-use Rattle.tt_kinds.specs.Values.{trait_predicate_shape}
-use Rattle.tt_interner.proofs.OwnedLaws.{list_still_owned}
+use Rattle.std.proofs.Common.{◌≡◌, ◌∙◌, subst}
+use Rattle.solver.specs.Answers.{IsNo, IsYes}
+use Rattle.solver.specs.Derivations.{Derives}
 use Rattle.solver.specs.Program.{goals_in, impls_in}
-use Rattle.solver.specs.Search.{Continues, goal_under}
-use Rattle.solver.proofs.AnswerLaws.{answer_derives}
+use Rattle.solver.specs.Search.{Continues, IsNoAnswer, IsYesAnswer, goal_under}
 use Rattle.solver.proofs.DerivationLaws.{stable}
-use Rattle.solver.proofs.ProgramLaws.{program_stays}
-use Rattle.solver.proofs.SearchLaws.{any_err, any_ok, continues_back, continues_further, continues_grown, turned_back}
-use Rattle.solver.proofs.solver.solve.Goals.{in-Ok-Yes+in-Err-log_of, in-Ok, in-Err}
+use Rattle.solver.proofs.OutcomeLaws.{if_ok}
+use Rattle.solver.proofs.SearchLaws.{any_err, any_ok, continues_back, turned_back}
 use Rattle.solver.proofs.solver.solve.Goals as goal
 
-pub log_of-requires-clause-program : goal.log_of-requires-clause-program
-log_of-requires-clause-program c =
-    program_stays c.args.cx.now c.solve_goal.new.cx c.solve_goal.ensures.extends c.args.program.now c.requires.program
-
-pub log_of-requires-clause-assumptions : goal.log_of-requires-clause-assumptions
-log_of-requires-clause-assumptions c =
-    list_still_owned trait_predicate_shape c.args.cx.now c.solve_goal.new.cx c.args.assumptions.now c.solve_goal.ensures.extends
-    c.requires.assumptions
-
-pub returns-in-Ok-log_of-clause-refined : goal.returns-in-Ok-log_of-clause-refined
-returns-in-Ok-log_of-clause-refined c =
-    let begins : c.new-search.result.bindings ≡ c.args.bindings.now = c.new-search.ensures ∙ c.replace-taken.ensures.value in
-    let on : Continues c.args.cx.now c.args.bindings.now c.solve_goal.new.cx c.solve_goal.new.self.bindings =
-    subst (λ t. Continues c.args.cx.now t c.solve_goal.new.cx c.solve_goal.new.self.bindings) begins c.solve_goal.ensures in
-    (continues_further on (continues_grown c.log_of.ensures.extends on.refined.table)).refined
-
-pub returns-in-Ok-log_of-clause-yes : goal.returns-in-Ok-log_of-clause-yes
-returns-in-Ok-log_of-clause-yes c =
+pub returns-in-Ok-Yes-clause-yes : goal.returns-in-Ok-Yes-clause-yes
+returns-in-Ok-Yes-clause-yes c =
     let old = c.args.cx.now in
-    let found = c.solve_goal.new.self.bindings in
-    let derived = answer_derives old c.solve_goal.new.cx c.log_of.new.cx found c.args.program.now c.args.assumptions.now c.args.goal
-    c.solve_goal.ensures.extends c.log_of.ensures.extends c.solve_goal.ensures.refined.table c.requires.program c.requires.assumptions
-    c.requires.goal c.in-Ok-log_of.ensures.derived in
-    λ yes. (stable (impls_in old c.args.program.now) c.requires.program.written).variables (goals_in old c.args.assumptions.now)
-    (goal_under c.log_of.new.cx found old c.args.goal) derived
+    let impls = impls_in old c.args.program.now in
+    let assumptions = goals_in old c.args.assumptions.now in
+    let goal = goal_under c.answer_of-answer.new.cx c.answer_of-answer.new.search.bindings old c.args.goal in
+    if_ok (λ answer. IsYesAnswer answer → Derives impls assumptions goal) (λ answer. IsYesAnswer answer → IsYes impls assumptions goal)
+    c.answer_of-answer.result
+    (λ answer derives yes. (stable impls c.requires.program.written).variables assumptions goal (derives yes)) c.answer_of-answer.ensures.yes
 
 pub returns-clause-refined : goal.returns-clause-refined
 returns-clause-refined c =
-    let found = c.solve_goal.new.self.bindings in
+    let later = c.answer_of-answer.new.cx in
+    let found = c.answer_of-answer.new.search.bindings in
     let begins : c.new-search.result.bindings ≡ c.args.bindings.now = c.new-search.ensures ∙ c.replace-taken.ensures.value in
-    let on : Continues c.args.cx.now c.args.bindings.now c.solve_goal.new.cx found =
-    subst (λ t. Continues c.args.cx.now t c.solve_goal.new.cx found) begins c.solve_goal.ensures in
-    let further : Continues c.args.cx.now c.args.bindings.now c.match-solve_goal.cx found =
-    elim c.match-solve_goal.branch [
-      | in-Ok-Yes+in-Err-log_of w ↦ (
-          subst (λ t. Continues c.args.cx.now c.args.bindings.now t found) (sym w.cx-is)
-          (continues_further on (continues_grown w.log_of.ensures.extends on.refined.table)))
-      | in-Ok w ↦ subst (λ t. Continues c.args.cx.now c.args.bindings.now t found) (sym w.cx-is) on
-      | in-Err w ↦ subst (λ t. Continues c.args.cx.now c.args.bindings.now t found) (sym w.cx-is) on
-    ] in
-    (continues_back c.snapshot-mark.result.variables c.snapshot-mark.result.bindings c.requires.table further
+    let on : Continues c.args.cx.now c.args.bindings.now later found =
+    subst (λ t. Continues c.args.cx.now t later found) begins c.answer_of-answer.ensures.continues in
+    (continues_back c.snapshot-mark.result.variables c.snapshot-mark.result.bindings c.requires.table on
     c.snapshot-mark.ensures.variables c.snapshot-mark.ensures.bindings c.rollback_to.ensures.at).refined
 
 pub returns-clause-earlier : goal.returns-clause-earlier
 returns-clause-earlier c =
-    let found = c.solve_goal.new.self.bindings in
+    let later = c.answer_of-answer.new.cx in
+    let found = c.answer_of-answer.new.search.bindings in
     let begins : c.new-search.result.bindings ≡ c.args.bindings.now = c.new-search.ensures ∙ c.replace-taken.ensures.value in
-    let on : Continues c.args.cx.now c.args.bindings.now c.solve_goal.new.cx found =
-    subst (λ t. Continues c.args.cx.now t c.solve_goal.new.cx found) begins c.solve_goal.ensures in
+    let on : Continues c.args.cx.now c.args.bindings.now later found =
+    subst (λ t. Continues c.args.cx.now t later found) begins c.answer_of-answer.ensures.continues in
     (continues_back c.snapshot-mark.result.variables c.snapshot-mark.result.bindings c.requires.table on
     c.snapshot-mark.ensures.variables c.snapshot-mark.ensures.bindings c.rollback_to.ensures.at).earlier
 
+pub returns-clause-no : goal.returns-clause-no
+returns-clause-no c =
+    let old = c.args.cx.now in
+    let impls = c.args.program.now in
+    let assumptions = c.args.assumptions.now in
+    let begins : c.new-search.result.bindings ≡ c.args.bindings.now = c.new-search.ensures ∙ c.replace-taken.ensures.value in
+    if_ok (λ answer. IsNoAnswer answer → IsNo (impls_in old impls) (goals_in old assumptions)
+    (goal_under old c.new-search.result.bindings old c.args.goal))
+    (λ answer. IsNoAnswer answer → IsNo (impls_in old impls) (goals_in old assumptions) (goal_under old c.args.bindings.now old c.args.goal))
+    c.answer_of-answer.result
+    (λ answer holds no. subst (λ b. IsNo (impls_in old impls) (goals_in old assumptions) (goal_under old b old c.args.goal)) begins (holds no))
+    c.answer_of-answer.ensures.no
+
 pub returns-clause-same : goal.returns-clause-same
 returns-clause-same c =
-    let found = c.solve_goal.new.self.bindings in
+    let later = c.answer_of-answer.new.cx in
+    let found = c.answer_of-answer.new.search.bindings in
     let begins : c.new-search.result.bindings ≡ c.args.bindings.now = c.new-search.ensures ∙ c.replace-taken.ensures.value in
-    let on : Continues c.args.cx.now c.args.bindings.now c.solve_goal.new.cx found =
-    subst (λ t. Continues c.args.cx.now t c.solve_goal.new.cx found) begins c.solve_goal.ensures in
-    any_ok _ c.match-solve_goal.rest (turned_back c.snapshot-mark.result.variables c.snapshot-mark.result.bindings on
+    let on : Continues c.args.cx.now c.args.bindings.now later found =
+    subst (λ t. Continues c.args.cx.now t later found) begins c.answer_of-answer.ensures.continues in
+    any_ok _ _ (turned_back c.snapshot-mark.result.variables c.snapshot-mark.result.bindings on
     c.snapshot-mark.ensures.variables c.snapshot-mark.ensures.bindings c.rollback_to.ensures.at)
 
 pub returns-clause-undone : goal.returns-clause-undone
 returns-clause-undone c =
-    let found = c.solve_goal.new.self.bindings in
+    let later = c.answer_of-answer.new.cx in
+    let found = c.answer_of-answer.new.search.bindings in
     let begins : c.new-search.result.bindings ≡ c.args.bindings.now = c.new-search.ensures ∙ c.replace-taken.ensures.value in
-    let on : Continues c.args.cx.now c.args.bindings.now c.solve_goal.new.cx found =
-    subst (λ t. Continues c.args.cx.now t c.solve_goal.new.cx found) begins c.solve_goal.ensures in
-    any_err c.match-solve_goal.rest (turned_back c.snapshot-mark.result.variables c.snapshot-mark.result.bindings on
+    let on : Continues c.args.cx.now c.args.bindings.now later found =
+    subst (λ t. Continues c.args.cx.now t later found) begins c.answer_of-answer.ensures.continues in
+    any_err _ (turned_back c.snapshot-mark.result.variables c.snapshot-mark.result.bindings on
     c.snapshot-mark.ensures.variables c.snapshot-mark.ensures.bindings c.rollback_to.ensures.at)

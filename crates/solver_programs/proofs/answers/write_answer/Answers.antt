@@ -26,27 +26,14 @@ returns-in_err-write c =
     Extends-trans (Extends-trans c.goal_of.ensures c.make_variables.ensures.extends)
     (Extends-trans c.answer_to.ensures.extends c.resolved.ensures)
 
-pub returns-in_err-push : goal.returns-in_err-push
-returns-in_err-push c =
-    Extends-trans (Extends-trans c.goal_of.ensures c.make_variables.ensures.extends)
-    (Extends-trans c.answer_to.ensures.extends c.resolved.ensures)
-
-pub returns-in_default : goal.returns-in_default
-returns-in_default c =
-    Extends-trans (Extends-trans c.goal_of.ensures c.make_variables.ensures.extends)
-    (Extends-trans c.answer_to.ensures.extends c.resolved.ensures)
-
 pub returns-in_err-write_bindings : goal.returns-in_err-write_bindings
 returns-in_err-write_bindings c =
     Extends-trans (Extends-trans c.goal_of.ensures c.make_variables.ensures.extends)
     (Extends-trans c.answer_to.ensures.extends c.resolved.ensures)
 
-pub returns-in_err-write_derivation : goal.returns-in_err-write_derivation
-returns-in_err-write_derivation c =
-    Extends-trans (Extends-trans c.goal_of.ensures c.make_variables.ensures.extends)
-    (Extends-trans c.answer_to.ensures.extends c.resolved.ensures)
-
 pub returns : goal.returns
 returns c =
-    Extends-trans (Extends-trans c.goal_of.ensures c.make_variables.ensures.extends)
-    (Extends-trans c.answer_to.ensures.extends c.resolved.ensures)
+    Extends-trans
+    (Extends-trans (Extends-trans c.goal_of.ensures c.make_variables.ensures.extends)
+    (Extends-trans c.answer_to.ensures.extends c.resolved.ensures))
+    c.write_reason.ensures

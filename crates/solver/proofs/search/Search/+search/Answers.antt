@@ -40,22 +40,22 @@ pub apply-returns-then-self-eq0 : goal.apply-returns-then-self-eq0
 apply-returns-then-self-eq0 n c = continues_itself c.requires.table
 
 pub apply-returns-in_err-unify_goals : goal.apply-returns-in_err-unify_goals
-apply-returns-in_err-unify_goals n c = continues_further c.head_of.ensures.continues c.unify_goals.ensures
+apply-returns-in_err-unify_goals n c = continues_further c.head_of.ensures.continues c.unify_goals.ensures.continues
 
 pub apply-returns-then-not-branch : goal.apply-returns-then-not-branch
-apply-returns-then-not-branch n c = continues_further c.head_of.ensures.continues c.unify_goals.ensures
+apply-returns-then-not-branch n c = continues_further c.head_of.ensures.continues c.unify_goals.ensures.continues
 
 pub apply-returns-in-Assumption : goal.apply-returns-in-Assumption
-apply-returns-in-Assumption n c = continues_further c.head_of.ensures.continues c.unify_goals.ensures
+apply-returns-in-Assumption n c = continues_further c.head_of.ensures.continues c.unify_goals.ensures.continues
 
 pub apply-returns-in-Assumption-2 : goal.apply-returns-in-Assumption-2
 apply-returns-in-Assumption-2 n c =
     subst (λ t. Continues c.args.cx.now c.args.self.now.bindings c.unify_goals.new.cx t) (sym c.push_line.ensures)
-    (continues_further c.head_of.ensures.continues c.unify_goals.ensures)
+    (continues_further c.head_of.ensures.continues c.unify_goals.ensures.continues)
 
 pub apply-returns-in-Implementation : goal.apply-returns-in-Implementation
 apply-returns-in-Implementation n c =
-    continues_further (continues_further c.head_of.ensures.continues c.unify_goals.ensures) c.implement.ensures
+    continues_further (continues_further c.head_of.ensures.continues c.unify_goals.ensures.continues) c.implement.ensures
 
 pub attempt-returns-in_default : goal.attempt-returns-in_default
 attempt-returns-in_default n c =

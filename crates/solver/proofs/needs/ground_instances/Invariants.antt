@@ -1,0 +1,6 @@
+use Rattle.tt_interner.specs.Stored.{Extends}
+use Rattle.solver.proofs.needs.ground_instances.Given as goal
+
+-- the interner grows
+abbrev pub invariant-loop-index : goal.invariant-loop-index
+invariant-loop-index l = Extends l.initial.cx l.cx
