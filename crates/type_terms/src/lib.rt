@@ -281,6 +281,7 @@ pub use tt_kinds::laws::shift_keeps_low_trees;
 pub use tt_kinds::laws::shifts_read_as_moved;
 pub use tt_kinds::laws::split_signatures_are_joined;
 pub use tt_kinds::order::kinds_are_ordered;
+pub use tt_owned::IsTested;
 pub use tt_owned::Owned;
 pub use tt_owned::are_owned;
 pub use tt_print::IrPrint;

@@ -16,13 +16,12 @@ use test_terms::{
     NOT_OWNED, bound_region, bound_ty, clause, clauses, is_instance, is_shifted, one_region,
     param_region, param_ty, predicate, ref_ty, region_variable, ty, tys, u32_ty,
 };
-use tt_owned::IsTested;
 use type_terms::{
     AsPredicate, Binder, BoundVarKinds, Clause, ClauseKind, Clauses, ClonesTree, Const, Core,
-    ErrorGuaranteed, FallibleTypeFolder, GenericArg, Handle, HasHook, InternedKind, Interner, Kind,
-    Next, Owned, Predicate, PredicateKind, Refusal, Region, RegionKind, Step, Term, Ty, TyKind,
-    TypeFoldable, TypeFolder, TypeSuperFoldable, TypeSuperVisitable, TypeVisitable, TypeVisitor,
-    Tys, visit_kind, visit_stored,
+    ErrorGuaranteed, FallibleTypeFolder, GenericArg, Handle, HasHook, InternedKind, Interner,
+    IsTested, Kind, Next, Owned, Predicate, PredicateKind, Refusal, Region, RegionKind, Step, Term,
+    Ty, TyKind, TypeFoldable, TypeFolder, TypeSuperFoldable, TypeSuperVisitable, TypeVisitable,
+    TypeVisitor, Tys, visit_kind, visit_stored,
 };
 
 // Counts the regions outside of errors, and breaks at an error.
