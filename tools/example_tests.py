@@ -9,7 +9,7 @@ import sys
 
 sys.dont_write_bytecode = True
 from edits import TOP
-from programs import files, programs_of, wrong_texts
+from programs import files, programs_of, tells_overlaps, wrong_texts
 
 HEAD = """\
 //! The scripts, programs and texts of examples/.
@@ -35,7 +35,7 @@ fn are_checked(rt: &impl Abort, alloc: Global, programs: &[(u64, &str, &str)]) -
 fn are_answered(rt: &impl Abort, alloc: Global, programs: &[(u64, &str, &str)]) -> Result<(), Fail> {
     for (line, source, printed) in programs {
         let mut output = Vec::new(alloc);
-        solver_programs::run(alloc, source.as_bytes(), &mut output)?;
+        solver_programs::run(alloc, source.as_bytes(), &mut output, false)?;
         let output = String::from_utf8_lossy(alloc, output.as_slice())?;
         assert_eq!(rt; output.as_str(), *printed, "line {line}");
     }
@@ -70,7 +70,7 @@ fn {name}(rt: HostRuntime) -> Result<(), Fail> {{
     let source = b"{source}";
     let printed = b"{printed}";
     let mut output = Vec::new(rt.alloc());
-    {call}(rt.alloc(), source.as_slice(), &mut output)?;
+    {call}(rt.alloc(), source.as_slice(), &mut output{further})?;
     assert!(rt; output.as_slice() == printed.as_slice());
     Ok(())
 }}
@@ -117,6 +117,14 @@ def text_of(path):
         return it.read()
 
 
+def example_test(path, call):
+    """Returns the test of a script, a program or a text, by the function that runs it."""
+    name, printed = os.path.relpath(path, f"{TOP}/examples").partition(".")[0].replace("/", "_"), f"{path}.stdout"
+    # The solver's function takes whether overlaps are asked for.
+    further = f", {tells_overlaps(text_of(printed))}".lower() if path.endswith(".goals") else ""
+    return TEST.format(name=name, call=call, source=literal(path), printed=literal(printed), further=further)
+
+
 def report_test(path):
     """Returns the test of what is said of the wrong program of a file."""
     said, file = text_of(f"{path}.report"), os.path.relpath(path, TOP)
@@ -135,8 +143,7 @@ def main():
     print(HEAD, end="")
     for pattern, call in CALLS.items():
         for path in sorted(glob.glob(f"{TOP}/examples/{pattern}")):
-            name = os.path.relpath(path, f"{TOP}/examples").partition(".")[0].replace("/", "_")
-            print(TEST.format(name=name, call=call, source=literal(path), printed=literal(f"{path}.stdout")), end="")
+            print(example_test(path, call), end="")
     for path in sorted(glob.glob(f"{TOP}/examples/checker/*.lang.report")):
         print(report_test(path[: -len(".report")]), end="")
     for path, call in [(it, "are_checked") for it in files()] + [(it, "are_answered") for it in wrong_texts()]:

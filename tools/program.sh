@@ -1,5 +1,6 @@
 # shellcheck shell=bash disable=SC2154
-# Runs a program of this repository. bin/terms and bin/checker source this file, which isn't a command by itself.
+# Runs a program of this repository. bin/terms, bin/explore, bin/checker and bin/solver source this file, which isn't a command by
+# itself.
 #
 # Before it is sourced these are set:
 #   name     the command in bin/, which begins each message
@@ -81,10 +82,20 @@ build() {
     trap - EXIT
 }
 
+# Prints what the first lines of the command's file say.
+help() {
+    awk 'NR > 1 && !/^#/ { exit } NR > 1 { sub(/^# ?/, ""); print }' "$top/bin/$name"
+}
+
 # Builds the program if need be, and runs it on standard input. The arguments are the command's. Further words than --unproved are
 # the program's, if it takes any.
 run_program() {
     local proves=yes
+    # Help needs no program.
+    if [ "${1-}" = --help ]; then
+        help
+        exit
+    fi
     if ! command -v rt > /dev/null; then
         say "the command rt isn't on the path: this needs the Rattle kit"
         exit 2

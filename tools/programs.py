@@ -54,6 +54,11 @@ def answered(path):
     return {int(it[1]): it[2] for it in map(ANSWER.fullmatch, lines_of(path)) if it}
 
 
+def tells_overlaps(printed):
+    """Whether an output begins with the line on overlaps, for which --overlap asks: without a line's number behind the name."""
+    return printed.startswith("<stdin>: ")
+
+
 def repeated(text):
     """Returns the text with each «COUNT TEXT» written out."""
     return REPEATED.sub(lambda it: int(it[1]) * it[2], text)

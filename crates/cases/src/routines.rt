@@ -12,6 +12,7 @@ mod folders;
 mod iterators;
 mod lists;
 mod names;
+mod overlaps;
 mod refutations;
 mod replacers;
 mod unification;
@@ -54,6 +55,8 @@ pub enum Routine {
     DerivationsAreFound,
     /// A goal is answered with a refutation, which the check accepts.
     RefutationsAreFound,
+    /// Two implementations apply to a goal.
+    OverlapsAreFound,
     /// Types that differ in the names of their variables alone have one canonical form.
     CanonicalFormsAreExact,
     /// Each call declares its sort by its name, and once more by another id.
@@ -96,6 +99,7 @@ impl Routine {
             "derivations_are_checked" => Some(Routine::DerivationsAreChecked),
             "derivations_are_found" => Some(Routine::DerivationsAreFound),
             "refutations_are_found" => Some(Routine::RefutationsAreFound),
+            "overlaps_are_found" => Some(Routine::OverlapsAreFound),
             "canonical_forms_are_exact" => Some(Routine::CanonicalFormsAreExact),
             "sorts_are_declared" => Some(Routine::SortsAreDeclared),
             "types_are_built" => Some(Routine::TypesAreBuilt),
@@ -129,6 +133,7 @@ impl Routine {
             Routine::DerivationsAreChecked => derivations::derivations_are_checked(cx),
             Routine::DerivationsAreFound => derivations::derivations_are_found(cx),
             Routine::RefutationsAreFound => refutations::refutations_are_found(cx),
+            Routine::OverlapsAreFound => overlaps::overlaps_are_found(cx),
             Routine::CanonicalFormsAreExact => canonical_forms::canonical_forms_are_exact(cx),
             Routine::SortsAreDeclared => declared::sorts_are_declared(cx),
             Routine::TypesAreBuilt => built::types_are_built(cx),

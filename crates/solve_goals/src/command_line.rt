@@ -46,6 +46,10 @@ pub fn command<'a>(alloc: Global) -> Result<Command<'a>, AllocError> {
         .long("why")
         .action(ArgAction::SetTrue)
         .help("Prints the derivation of each yes, and why each no has none");
+    let overlap = Arg::new(alloc, "overlap")
+        .long("overlap")
+        .action(ArgAction::SetTrue)
+        .help("Prints first which two implementations both apply to a goal, or that no two do");
     let name = Arg::new(alloc, "name").long("name").value_name("NAME").help(
         "What messages and answers call the text, in place of FILE",
     );
@@ -56,5 +60,6 @@ pub fn command<'a>(alloc: Global) -> Result<Command<'a>, AllocError> {
         .after_help(AFTER)
         .arg(file)?
         .arg(why)?
+        .arg(overlap)?
         .arg(name)
 }

@@ -50,8 +50,14 @@ fn started(rt: &HostRuntime, matches: &ArgMatches) -> io::Result<ExitCode> {
         (path, fs::read_to_string(rt, path))
     };
     let name = matches.get_str("name").unwrap_or(called);
+    let wishes = Wishes {
+        name,
+        limits: LIMITS,
+        has_reasons: matches.get_flag("why"),
+        has_overlaps: matches.get_flag("overlap"),
+    };
     match source {
-        Ok(source) => answered(rt, name, source.as_str(), matches.get_flag("why")),
+        Ok(source) => answered(rt, source.as_str(), wishes),
         Err(error) => {
             eprintln!(rt; "solver: {called}: {error}")?;
             Ok(ExitCode::from(NOT_ANSWERED))
@@ -60,12 +66,8 @@ fn started(rt: &HostRuntime, matches: &ArgMatches) -> io::Result<ExitCode> {
 }
 
 // Answers the goals, and prints the answers or what is wrong.
-fn answered(rt: &HostRuntime, name: &str, source: &str, has_reasons: bool) -> io::Result<ExitCode> {
-    let wishes = Wishes {
-        name,
-        limits: LIMITS,
-        has_reasons,
-    };
+fn answered(rt: &HostRuntime, source: &str, wishes: Wishes<'_>) -> io::Result<ExitCode> {
+    let name = wishes.name;
     match verdict_of(rt.alloc(), source, wishes) {
         Verdict::Answers(lines) => {
             print!(rt; "{lines}")?;

@@ -1,7 +1,6 @@
 -- Arguments that were read, and the types among them.
-use Rattle.std.proofs.Common.{◌≡◌, ℕ, zero, suc, ◌<◌, inl, inr, List, length, refl, ap, sym, ◌∙◌, subst, arith}
+use Rattle.std.proofs.Common.{◌≡◌, ℕ, zero, suc, ◌<◌, List, length, refl, ap, sym, ◌∙◌, subst, arith}
 use Rattle.std.specs.Prelude.{◌↔◌, Bool, true, false, not, IsTrue, Some, slice_get}
-use Rattle.std.proofs.lemmas.Option.{slice_get_within}
 use Rattle.tt_kinds.specs.GenericArg.{type_of}
 use Rattle.tt_kinds.specs.Handle.{GenericArgs, Ty}
 use Rattle.tt_kinds.specs.Kinds.{arg_shape, ty_shape}
@@ -17,7 +16,7 @@ use Rattle.tt_interner.specs.Stored.{Terms}
 use Rattle.unify.proofs.OwnSolution.{tree_is_type}
 use Rattle.solver.specs.Derivations.{AreArguments, IsTypeArgument}
 use Rattle.solver.specs.Program.{argument_trees}
-use Rattle.solver.proofs.OutcomeLaws.{as_many, below_next, found_mapped}
+use Rattle.solver.proofs.OutcomeLaws.{as_many, found_mapped}
 
 -- a test for variables that are bound outside answers no only where there are none
 pub none_outside : (found : Bool) (n : ℕ) → IsTrue found ↔ (0 < n) → IsTrue (not found) → n ≡ 0
@@ -38,21 +37,9 @@ type_argument terms (arg.«Type» t) ty is are owned closed =
     }
 type_argument terms (arg.Const k) ty is are owned closed = absurd (cc)
 
--- the first arguments are type arguments
-abbrev pub AreTypesBelow : Terms → List GenericArgKind → ℕ → Type 0
-AreTypesBelow terms args n = (k : ℕ) (a : GenericArgKind) → k < n → slice_get args k ≡ Some a
-    → IsTypeArgument (rows.argument_of terms.rows a)
-
--- and so with one more
-pub types_next : (terms : Terms) (args : List GenericArgKind) (n : ℕ) (a : GenericArgKind) → AreTypesBelow terms args n
-    → slice_get args n ≡ Some a → IsTypeArgument (rows.argument_of terms.rows a) → AreTypesBelow terms args (suc n)
-types_next terms args n a below at is = λ k other less there.
-    elim (below_next k n less) [
-      | inl older ↦ below k other older there
-      | inr same ↦ (
-          let this : a ≡ other = let p = ap (slice_get args) same in cc in
-          subst (λ x. IsTypeArgument (rows.argument_of terms.rows x)) this is)
-    ]
+-- the argument is a type argument
+abbrev pub IsTypeAt : Terms → GenericArgKind → Type 0
+IsTypeAt terms a = IsTypeArgument (rows.argument_of terms.rows a)
 
 module _ (terms : Terms) (args : GenericArgs) (items : List GenericArgKind) (read : Reads terms.rows ArgLists args.number (args_row items)) where
   -- the arguments that were read are those of the list
@@ -67,11 +54,12 @@ module _ (terms : Terms) (args : GenericArgs) (items : List GenericArgKind) (rea
   items_owned = read.parts.1
 
   -- where each of them is a type argument, they are arguments for as many parameters
-  pub arguments_are : (n : ℕ) → AreTypesBelow terms items (length items) → length items ≡ n → AreArguments n (argument_trees terms args)
-  arguments_are n below counted = record {
+  pub arguments_are : (n : ℕ) → ((k : ℕ) (a : GenericArgKind) → slice_get items k ≡ Some a → IsTypeAt terms a) → length items ≡ n
+      → AreArguments n (argument_trees terms args)
+  arguments_are n types counted = record {
     counted = as_many (rows.argument_of terms.rows) (rows.args_at terms.rows args) ∙ ap length arguments_read ∙ counted;
     each = λ k a at.
         let found = found_mapped (rows.argument_of terms.rows) (rows.args_at terms.rows args) k a at in
         let there = sym (ap (λ xs. slice_get xs k) arguments_read) ∙ found.1 in
-        subst IsTypeArgument found.2 (below k found.0 (slice_get_within items k found.0 there) there);
+        subst IsTypeArgument found.2 (types k found.0 there);
   }

@@ -120,7 +120,8 @@ module _ (ρ : Assignment) (is-assignment : IsAssignment ρ) where
     closed = ap greatest_reach (read_assign ρ is-assignment 0 a.value) ∙ assigned_closed ρ is-assignment.closed (read 0 a.value) is.closed;
   }
 
-found_before : {X : Type 0} (xs more : List X) (k : ℕ) (x : X) → slice_get xs k ≡ Some x → slice_get (xs ++ more) k ≡ Some x
+-- an item is found where further items follow
+pub found_before : {X : Type 0} (xs more : List X) (k : ℕ) (x : X) → slice_get xs k ≡ Some x → slice_get (xs ++ more) k ≡ Some x
 found_before [] more k x at = absurd (cc)
 found_before (y ∷ xs) more zero x at = at
 found_before (y ∷ xs) more (suc k) x at = found_before xs more k x at

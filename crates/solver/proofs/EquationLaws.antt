@@ -24,6 +24,7 @@ use Rattle.tt_interner.specs.Stored.{Extends, IsAt, Terms}
 use Rattle.tt_interner.proofs.Growth.{fill-grows}
 use Rattle.tt_interner.proofs.OwnedLaws.{found_owned}
 use Rattle.tt_interner.proofs.Trees.{distinct}
+use Rattle.tt_binder.specs.ArgumentLaws.{arguments-still}
 use Rattle.unify.specs.Faults.{IsEscapes, IsMismatch, IsOccurs}
 use Rattle.unify.specs.Substitution.{Assignment, HasNoClosedUnifier, HasNoOwnUnifier, HasNoUnifier, IsOwn, Solves, Substitution}
 use Rattle.unify.specs.Substitution.{assign, assign_all, variable_in, variable_tree}
@@ -171,19 +172,13 @@ map_pushed : {X Y : Type 0} (f : X → Y) (xs : List X) (x : X) → map f (xs ++
 map_pushed f [] x = refl
 map_pushed f (y ∷ xs) x = ap (λ ys. f y ∷ ys) (map_pushed f xs x)
 
-arguments_grow : (old new : Terms) (items : List GenericArgKind) → Extends old new → AreOwned arg_shape old items
-    → rows.arguments new.rows items ≡ rows.arguments old.rows items
-arguments_grow old new [] extends owned = refl
-arguments_grow old new (x ∷ items) extends owned =
-    rw (fill-grows old.rows new.rows extends.rows (arg_shape x) owned.0, arguments_grow old new items extends owned.1) refl
-
 -- the variables that were made, and one more
 pub variables_next : (old new : Terms) (v n w : ℕ) (items : List GenericArgKind) (x : GenericArgKind) → Extends old new
     → AreOwned arg_shape old items → rows.arguments old.rows items ≡ variables_from v n → w ≡ v + n
     → rows.argument_of new.rows x ≡ variable_argument w → rows.arguments new.rows (items ++ x ∷ []) ≡ variables_from v (suc n)
 variables_next old new v n w items x extends owned are is one =
     map_pushed (rows.argument_of new.rows) items x
-    ∙ ap (λ xs. xs ++ rows.argument_of new.rows x ∷ []) (arguments_grow old new items extends owned ∙ are)
+    ∙ ap (λ xs. xs ++ rows.argument_of new.rows x ∷ []) (arguments-still old.rows new.rows items items extends.rows refl owned ∙ are)
     ∙ ap (λ a. variables_from v n ++ a ∷ []) one ∙ one_variable_more v n w is
 
 -- and the list of them
@@ -191,4 +186,4 @@ pub variables_made : (old new : Terms) (args : GenericArgs) (items : List Generi
     → AreOwned arg_shape old items → IsAt new.rows (args_row items) args.number → rows.arguments old.rows items ≡ variables_from v n
     → rows.arguments new.rows (rows.args_at new.rows args) ≡ variables_from v n
 variables_made old new args items v n extends owned at are =
-    ap (rows.arguments new.rows) (made_arguments new args items at) ∙ arguments_grow old new items extends owned ∙ are
+    ap (rows.arguments new.rows) (made_arguments new args items at) ∙ arguments-still old.rows new.rows items items extends.rows refl owned ∙ are

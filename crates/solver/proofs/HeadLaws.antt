@@ -70,6 +70,19 @@ module _ (ρ : Assignment) where
       let rest = become (suc v) args (λ k. sorted (suc k)) (λ k w b at is. values (suc k) w b at (omega (arith, is))) in
       rw (first, rest) refl
 
+module _ (ρ : Assignment) (is : IsAssignment ρ) (v n : ℕ) (args : List (Argument Depth)) (are : AreArguments n args)
+    (gives : (k w : ℕ) (a : Argument Depth) → slice_get args k ≡ Some a → w ≡ v + k → ρ w ≡ a.value) where
+  all_become : change_values (assign ρ) (variables_from v n) ≡ args
+  all_become = subst (λ m. change_values (assign ρ) (variables_from v m) ≡ args) are.counted
+      (become ρ v args (λ k a at. (are.each k a at).sorted) gives)
+
+  -- an instance at variables that are assigned the arguments becomes the instance at the arguments
+  pub instance_assigned : (r : Tree Place) → IsWrittenGoal n r → assigned ρ (instance_of (variables_from v n) r) ≡ instance_of args r
+  instance_assigned r goal =
+      let fresh = variables_from v n in
+      assigned_put ρ (readings fresh) r goal.ground (goal.answered fresh (variables_are_arguments v n))
+      ∙ ap (λ xs. put xs r) (sym (readings_change (assign ρ) (assigned ρ) (read_assign ρ is 0) fresh) ∙ ap readings all_become)
+
 module _ (n : ℕ) (args : List (Argument Depth)) (are : AreArguments n args) where
   given_type : (o : Option (Argument Depth)) (v : ℕ) → ((a : Argument Depth) → o ≡ Some a → IsTypeArgument a) → IsType (given o v)
   given_type (Some a) v h = (h a refl).type
@@ -89,6 +102,10 @@ module _ (n : ℕ) (args : List (Argument Depth)) (are : AreArguments n args) wh
   given_is (Some b) v a is = let same : b ≡ a = cc in ap (λ (x : Argument Depth). x.value) same
   given_is None v a is = absurd (cc)
 
+  -- a variable becomes the argument of its number
+  pub given_at : (v k : ℕ) (a : Argument Depth) → slice_get args k ≡ Some a → v ≡ k → as_given args v ≡ a.value
+  given_at v k a at is = given_is (slice_get args v) v a (ap (slice_get args) is ∙ at)
+
   -- the arguments for the first n variables are types without a variable bound outside of them
   pub given_assignment : IsAssignment (as_given args)
   given_assignment = record {
@@ -102,20 +119,11 @@ module _ (n : ℕ) (args : List (Argument Depth)) (are : AreArguments n args) wh
     leaves = λ v. given_past (slice_get args v) v refl;
   }
 
-  become_given : change_values (assign (as_given args)) (variables_from 0 n) ≡ args
-  become_given = subst (λ m. change_values (assign (as_given args)) (variables_from 0 m) ≡ args) are.counted
-      (become (as_given args) 0 args (λ k a at. (are.each k a at).sorted)
-      (λ k w a at is. given_is (slice_get args w) w a (ap (slice_get args) (let same : w ≡ k = omega (arith, is) in same) ∙ at)))
-
   -- an instance at variables becomes the instance at the arguments
   pub instance_becomes : (r : Tree Place) → IsWrittenGoal n r
       → assigned (as_given args) (instance_of (variables_from 0 n) r) ≡ instance_of args r
-  instance_becomes r goal =
-      let ρ = as_given args in
-      let fresh = variables_from 0 n in
-      assigned_put ρ (readings fresh) r goal.ground (goal.answered fresh (variables_are_arguments 0 n))
-      ∙ ap (λ xs. put xs r) (sym (readings_change (assign ρ) (assigned ρ) (read_assign ρ given_assignment 0) fresh)
-      ∙ ap readings become_given)
+  instance_becomes = instance_assigned (as_given args) given_assignment 0 n args are
+      (λ k w a at is. given_at w k a at (let same : w ≡ k = omega (arith, is) in same))
 
   -- so a goal that is an instance of the head is made equal to the head with variables
   pub head_equated : (goal head : Tree Depth) (h : Tree Place) → IsGround (read 0 goal) → IsWrittenGoal n h

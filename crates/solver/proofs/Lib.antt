@@ -8,6 +8,7 @@ pub mod EquationLaws
 pub mod HeadLaws
 pub mod LogLaws
 pub mod OutcomeLaws
+pub mod OverlapLaws
 pub mod ProgramLaws
 pub mod RefutationLaws
 pub mod SearchLaws

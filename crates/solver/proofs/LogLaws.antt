@@ -1,5 +1,5 @@
 -- Lines of a log, and what follows from them.
-use Rattle.std.proofs.Common.{◌≡◌, ℕ, zero, suc, ◌<◌, ◌≤◌, List, [], ◌∷◌, length, map, take, ap, subst, arith}
+use Rattle.std.proofs.Common.{◌≡◌, ℕ, zero, suc, ◌<◌, ◌≤◌, List, [], ◌∷◌, length, map, take, subst, arith}
 use Rattle.std.proofs.Common.{inl, inr, ◌⊎◌}
 use Rattle.std.specs.Prelude.{Some, slice_get}
 use Rattle.std.proofs.lemmas.Option.{slice_get_within}
@@ -8,11 +8,11 @@ use Rattle.tt_kinds.specs.Tree.{Place, Tree}
 use Rattle.tt_kinds.specs.declared.predicate.TraitPredicate.{TraitPredicate}
 use Rattle.tt_interner.specs.Stored.{Terms}
 use Rattle.solver.specs.Derivations.{AreArguments, Derives, assumed, implemented, instance_of}
-use Rattle.solver.specs.Log.{AreDerived, AreMet, AreMetBelow, AreOwnedLines, IsOwnedLine}
+use Rattle.solver.specs.Log.{AreDerived, AreMet, AreOwnedLines}
 use Rattle.solver.specs.Program.{argument_trees, goal_in, goals_in, impl_in, impls_in}
 use Rattle.solver.specs.declared.log.Line.{Line}
 use Rattle.solver.specs.declared.program.Impl.{Impl}
-use Rattle.solver.proofs.OutcomeLaws.{below_next, found_map, found_mapped}
+use Rattle.solver.proofs.OutcomeLaws.{found_map, found_mapped}
 
 -- an item of the first ones is an item
 pub found_of_first : {X : Type 0} (n : ℕ) (xs : List X) (k : ℕ) (x : X) → slice_get (take n xs) k ≡ Some x → slice_get xs k ≡ Some x
@@ -36,20 +36,6 @@ first_of_found zero xs k x less at = absurd (omega (arith, less))
 first_of_found (suc n) [] k x less at = absurd (cc)
 first_of_found (suc n) (y ∷ xs) zero x less at = at
 first_of_found (suc n) (y ∷ xs) (suc k) x less at = first_of_found n xs k x (omega (arith, less)) at
-
--- with the next line the interner's, one more line is
-pub owned_next : (terms : Terms) (lines : List Line) (n : ℕ) (line : Line) → slice_get lines n ≡ Some line
-    → AreOwnedLines terms (take n lines) → IsOwnedLine terms line → AreOwnedLines terms (take (suc n) lines)
-owned_next terms lines n line at first next = λ k other there.
-    elim (first_or_next n lines k other there) [
-      | inl earlier ↦ first k other earlier
-      | inr same ↦ (let is : line ≡ other = cc in subst (IsOwnedLine terms) is next)
-    ]
-
--- what holds of as many lines as there are holds of all
-pub all_owned : (terms : Terms) (lines : List Line) (n : ℕ) → length lines ≤ n → AreOwnedLines terms (take n lines) → AreOwnedLines terms lines
-all_owned terms lines n all first = λ k line at.
-    first k line (first_of_found n lines k line (let within = slice_get_within lines k line at in omega (arith, within, all)) at)
 
 -- what holds of as many lines as there are holds of all
 pub all_derived : (terms : Terms) (impls : List Impl) (assumptions : List TraitPredicate) (lines : List Line) (n : ℕ) → length lines ≤ n
@@ -95,19 +81,6 @@ instance_derived terms impls assumptions lines k i args goal at are is met deriv
         → Derives (impls_in terms impls) (goals_in terms assumptions) (instance_of (argument_trees terms args) r)
     each j r there =
         let found = found_mapped read i.conditions.items j r there in
-        let line = met j found.0 (slice_get_within i.conditions.items j found.0 found.1) found.1 in
+        let line = met j found.0 found.1 in
         subst (λ x. Derives (impls_in terms impls) (goals_in terms assumptions) (instance_of (argument_trees terms args) x)) found.2
         (subst (Derives (impls_in terms impls) (goals_in terms assumptions)) line.3 (derived line.0 line.1 line.2))
-
--- one more condition is met
-pub met_next : (terms : Terms) (conditions : List TraitPredicate) (args : GenericArgs) (lines : List Line) (n k : ℕ)
-    (c : TraitPredicate) (line : Line) → AreMetBelow terms conditions args lines n → slice_get conditions n ≡ Some c
-    → slice_get lines k ≡ Some line → goal_in terms line.goal ≡ instance_of (argument_trees terms args) (goal_in terms c)
-    → AreMetBelow terms conditions args lines (suc n)
-met_next terms conditions args lines n k c line below at there is = λ j other less found.
-    elim (below_next j n less) [
-      | inl older ↦ below j other older found
-      | inr same ↦ (
-          let this : c ≡ other = let p = ap (slice_get conditions) same in cc in
-          (k, line, there, subst (λ (x : TraitPredicate). goal_in terms line.goal ≡ instance_of (argument_trees terms args) (goal_in terms x)) this is))
-    ]

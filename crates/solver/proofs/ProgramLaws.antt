@@ -1,6 +1,5 @@
 -- Goals, implementations and programs stay what they are, whatever the interner builds.
-use Rattle.std.proofs.Common.{◌≡◌, ℕ, zero, suc, ◌<◌, ◌≤◌, ◌⊎◌, inl, inr, List, [], ◌∷◌, ◌++◌, length, refl, ap, sym, ◌∙◌, subst, arith}
-use Rattle.std.proofs.lemmas.Option.{slice_get_within}
+use Rattle.std.proofs.Common.{◌≡◌, ℕ, zero, suc, ◌≤◌, ◌⊎◌, inl, inr, List, [], ◌∷◌, ◌++◌, length, refl, ap, sym, ◌∙◌, subst}
 use Rattle.std.specs.Prelude.{Some, slice_get}
 use Rattle.tt_kinds.specs.Handle.{GenericArgs}
 use Rattle.tt_kinds.specs.Kinds.{args_shape}
@@ -22,7 +21,7 @@ use Rattle.solver.specs.declared.log.Line.{Line}
 use Rattle.solver.specs.declared.log.Reason.{Reason}
 use Rattle.solver.specs.declared.log.Reason.TheVariants.{Assumed, Implemented}
 use Rattle.solver.specs.declared.program.Impl.{Impl}
-use Rattle.solver.proofs.OutcomeLaws.{below_next, found_map, found_mapped}
+use Rattle.solver.proofs.OutcomeLaws.{HoldsBelow, found_map, found_mapped, holds_all}
 
 -- what the code's index gives where there is no goal
 abbrev pub no_goal : TraitPredicate
@@ -110,8 +109,8 @@ module _ (old new : Terms) (extends : Extends old new) where
     -- conditions that are met stay met
     pub met_stays : (conditions : List TraitPredicate) (lines : List Line) → AreOwned trait_predicate_shape old conditions
         → AreOwnedLines old lines → AreMet new conditions args lines → AreMet old conditions args lines
-    met_stays conditions lines mine owned met = λ j c less at.
-        let m = met j c less at in
+    met_stays conditions lines mine owned met = λ j c at.
+        let m = met j c at in
         (m.0, m.1, m.2, instance_stays c m.1.goal (found_owned trait_predicate_shape old conditions j c at mine) (owned m.0 m.1 m.2).goal m.3)
 
     -- a goal that could be declared stays so
@@ -122,34 +121,20 @@ module _ (old new : Terms) (extends : Extends old new) where
         subst (IsWrittenGoal n) (goal_stays goal owned)
         (written n (subst (AreArguments n) (sym (arguments_stay args own are)) some))
 
--- the first conditions could be declared
-abbrev pub AreWrittenBelow : Terms → GenericArgs → List TraitPredicate → ℕ → Type 0
-AreWrittenBelow terms args conditions m = (n : ℕ) → AreArguments n (argument_trees terms args) → (k : ℕ) (c : TraitPredicate) → k < m
-    → slice_get conditions k ≡ Some c → IsWrittenGoal n (goal_in terms c)
-
--- and so with one more
-pub written_next : (terms : Terms) (args : GenericArgs) (conditions : List TraitPredicate) (m : ℕ) (c : TraitPredicate)
-    → AreWrittenBelow terms args conditions m → slice_get conditions m ≡ Some c
-    → ((n : ℕ) → AreArguments n (argument_trees terms args) → IsWrittenGoal n (goal_in terms c))
-    → AreWrittenBelow terms args conditions (suc m)
-written_next terms args conditions m c below at written = λ n are k other less there.
-    elim (below_next k m less) [
-      | inl older ↦ below n are k other older there
-      | inr same ↦ (
-          let this : c ≡ other = let p = ap (slice_get conditions) same in cc in
-          subst (λ g. IsWrittenGoal n (goal_in terms g)) this (written n are))
-    ]
+-- with these arguments the goal could be declared
+abbrev pub IsWrittenFor : Terms → GenericArgs → TraitPredicate → Type 0
+IsWrittenFor terms args goal = (n : ℕ) → AreArguments n (argument_trees terms args) → IsWrittenGoal n (goal_in terms goal)
 
 -- an implementation whose goals could be declared could be
 pub impl_written : (terms : Terms) (args : GenericArgs) (i : Impl) (m : ℕ) → AreArguments i.params (argument_trees terms args)
-    → IsWrittenGoal i.params (goal_in terms i.head) → AreWrittenBelow terms args i.conditions.items m → length i.conditions.items ≤ m
-    → IsWritten (impl_in terms i)
+    → IsWrittenGoal i.params (goal_in terms i.head) → HoldsBelow (IsWrittenFor terms args) i.conditions.items m
+    → length i.conditions.items ≤ m → IsWritten (impl_in terms i)
 impl_written terms args i m are head below all = record {
   head = head;
   conditions = λ j r at.
       let found = found_mapped (goal_in terms) i.conditions.items j r at in
-      let within = slice_get_within i.conditions.items j found.0 found.1 in
-      subst (IsWrittenGoal i.params) found.2 (below i.params are j found.0 (omega (arith, within, all)) found.1);
+      subst (IsWrittenGoal i.params) found.2
+      (holds_all (IsWrittenFor terms args) i.conditions.items m all below j found.0 found.1 i.params are);
 }
 
 -- a program without implementations

@@ -3,17 +3,15 @@ use Rattle.std.proofs.Common.{◌≡◌, ◌+◌, ℕ, zero, suc, ◌⊎◌, inl
 use Rattle.std.proofs.lemmas.List.{length-append}
 use Rattle.std.specs.Prelude.{◌↔◌, Bool, false, IsTrue, Some, slice_get, Err, IfOk, Ok, OnErr, Result}
 use Rattle.tt_flags.specs.TypeFlags.{has_ty_infer}
-use Rattle.tt_kinds.specs.GenericArg.{type_of}
-use Rattle.tt_kinds.specs.Handle.{GenericArgs, Ty}
-use Rattle.tt_kinds.specs.Kinds.{arg_shape, args_shape, ty_shape}
+use Rattle.tt_kinds.specs.Handle.{GenericArgs}
+use Rattle.tt_kinds.specs.Kinds.{arg_shape, args_shape}
 use Rattle.tt_kinds.specs.Label.{list_label}
 use Rattle.tt_kinds.specs.Reading.{read}
 use Rattle.tt_kinds.specs.Scan.{scan}
 use Rattle.tt_kinds.specs.Shape.{fill, fill_all, item_shapes}
-use Rattle.tt_kinds.specs.Tree.{Depth, Tree, Forest, also, node, none}
+use Rattle.tt_kinds.specs.Tree.{Depth, Tree, node}
 use Rattle.tt_kinds.specs.Values.{trait_predicate_shape}
 use Rattle.tt_kinds.specs.declared.generic_arg.GenericArgKind.{GenericArgKind}
-use Rattle.tt_kinds.specs.declared.generic_arg.GenericArgKind.TheVariants as arg
 use Rattle.tt_kinds.specs.declared.predicate.TraitPredicate.{TraitPredicate}
 use Rattle.tt_kinds.specs.declared.table.Table.TheVariants.{ArgLists}
 use Rattle.tt_interner.specs.Owned.{AreOwned, IsOwned, tree_by, tree_in}
@@ -24,7 +22,7 @@ use Rattle.tt_interner.proofs.Growth.{Extends-refl, Extends-trans, fill-grows}
 use Rattle.tt_interner.proofs.OwnedLaws.{found_owned, list_still_owned, owned_laws, still_owned}
 use Rattle.tt_visit.specs.HasTypeFlags.{Meets}
 use Rattle.tt_fold.proofs.KeptLaws.{misses}
-use Rattle.unify.specs.Bindings.{IsRefined, IsTable, KeepsEarlier, Table, substitution, table_at, with_variable}
+use Rattle.unify.specs.Bindings.{IsTable, KeepsEarlier, Table, substitution, table_at, with_variable}
 use Rattle.unify.specs.Substitution.{Refines, Substitution, apply, apply_all}
 use Rattle.unify.proofs.ComparisonLaws.{rolled_back}
 use Rattle.unify.proofs.FlagLaws.{unflagged_stays}

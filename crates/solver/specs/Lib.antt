@@ -1,6 +1,7 @@
 pub mod Answers
 pub mod Derivations
 pub mod Log
+pub mod Overlap
 pub mod Program
 pub mod Refutation
 pub mod Search

@@ -1,5 +1,5 @@
 -- Logs as the code has them.
-use Rattle.std.specs.Prelude.{◌≡◌, ◌<◌, ℕ, List, Some, ⊤, length, slice_get}
+use Rattle.std.specs.Prelude.{◌≡◌, ℕ, List, Some, ⊤, slice_get}
 use Rattle.tt_kinds.specs.Handle.{GenericArgs}
 use Rattle.tt_kinds.specs.Kinds.{args_shape}
 use Rattle.tt_kinds.specs.Values.{trait_predicate_shape}
@@ -32,12 +32,12 @@ abbrev pub AreDerived : Terms → List Impl → List TraitPredicate → List Lin
 AreDerived terms impls assumptions lines = (k : ℕ) (line : Line) → slice_get lines k ≡ Some line
     → Derives (impls_in terms impls) (goals_in terms assumptions) (goal_in terms line.goal)
 
--- each of the first conditions has a line, whose goal is the condition's instance
-abbrev pub AreMetBelow : Terms → List TraitPredicate → GenericArgs → List Line → ℕ → Type 0
-AreMetBelow terms conditions args lines n = (j : ℕ) (c : TraitPredicate) → j < n
-    → slice_get conditions j ≡ Some c → (k : ℕ) × (line : Line) × (slice_get lines k ≡ Some line)
+-- the condition has a line, whose goal is the condition's instance
+abbrev pub IsMet : Terms → GenericArgs → List Line → TraitPredicate → Type 0
+IsMet terms args lines c = (k : ℕ) × (line : Line) × (slice_get lines k ≡ Some line)
     × (goal_in terms line.goal ≡ instance_of (argument_trees terms args) (goal_in terms c))
 
 -- each condition has such a line
 abbrev pub AreMet : Terms → List TraitPredicate → GenericArgs → List Line → Type 0
-AreMet terms conditions args lines = AreMetBelow terms conditions args lines (length conditions)
+AreMet terms conditions args lines = (j : ℕ) (c : TraitPredicate) → slice_get conditions j ≡ Some c
+    → IsMet terms args lines c

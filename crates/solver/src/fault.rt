@@ -13,8 +13,8 @@ pub enum Fault {
     /// a binder around it, or a parameter that isn't one of its own types.
     #[error("the implementation has a variable or a parameter that is not its own")]
     Unwritten,
-    /// A line of the log doesn't follow.
-    #[error("a line of the log does not follow")]
+    /// What was to be verified doesn't follow.
+    #[error("what was to be verified does not follow")]
     Unverified,
     /// The library refused a call: memory is short ([`Refusal::Memory`]), a table is full ([`Refusal::TableFull`]), or
     /// an instance would need an index that is too great ([`Refusal::GreatestIndex`]).

@@ -173,8 +173,8 @@ fn check_implementation(
     }
 }
 
-// Returns whether each argument is a type.
-fn are_types(cx: &Interner, args: GenericArgs) -> bool
+/// Returns whether each argument is a type.
+pub fn are_types(cx: &Interner, args: GenericArgs) -> bool
     requires { IsOwned args_shape cx.now args }
     ensures { IsTrue result → AreTypes (args_at cx.now.rows args) }
 {

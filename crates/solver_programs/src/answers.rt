@@ -8,6 +8,7 @@ use crate::declared::{Declared, declare, name_of, program_of};
 use crate::derivations::write_derivation;
 use crate::failure::Failure;
 use crate::goals::{goal_of, goals_of};
+use crate::overlaps::write_overlap;
 use crate::refutations::write_refutation;
 use crate::texts::{Variables, write_type};
 use solver::{Answer, Limits, Program, solve};
@@ -27,6 +28,8 @@ pub struct Wishes<'a> {
     pub limits: Limits,
     /// Whether derivations and refutations are written.
     pub has_reasons: bool,
+    /// Whether it is written which two implementations both apply to a goal.
+    pub has_overlaps: bool,
 }
 
 // What goals are asked in.
@@ -38,7 +41,7 @@ struct Question<'a> {
     wishes: Wishes<'a>,
 }
 
-/// Returns a line for each goal of the script: its place, and its answer.
+/// Returns a line for each goal of the script: its place, and its answer. Before them is one on overlaps if it is asked for.
 #[tactic(auto, using(crate::proofs::GrowthLaws::growth_laws))]
 pub fn answers_of(
     cx: &mut Interner,
@@ -48,6 +51,7 @@ pub fn answers_of(
     let declared = declare(cx, script)?;
     let program = program_of(cx, script, &declared)?;
     let mut text = String::new(cx.allocator());
+    write_overlap(cx, &mut text, script, &program, wishes)?;
     write_groups(cx, &mut text, script, &declared, &program, wishes)?;
     Ok(text)
 }

@@ -8,6 +8,7 @@ mod declared;
 mod derivations;
 mod failure;
 mod goals;
+mod overlaps;
 mod refutations;
 mod sources;
 mod texts;

@@ -61,17 +61,19 @@ fn report_of(alloc: Global, message: Message) -> Report {
 }
 
 /// Reads a source from the input, and writes the answers with their reasons to the output, or what is wrong, as the
-/// program with `--why` does. Returns whether all goals were answered.
+/// program with `--why` does, and with `--overlap` too if overlaps are asked for. Returns whether all goals were answered.
 pub fn run<R: Read + Drop, W: Write + Drop>(
     alloc: Global,
     input: R,
     mut output: W,
+    has_overlaps: bool,
 ) -> io::Result<bool> {
     let source = io::read_to_string(alloc, input)?;
     let wishes = Wishes {
         name: "<stdin>",
         limits: LIMITS,
         has_reasons: true,
+        has_overlaps,
     };
     let is_answered = match verdict_of(alloc, source.as_str(), wishes) {
         Verdict::Answers(lines) => {

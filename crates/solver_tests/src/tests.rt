@@ -1,7 +1,8 @@
-//! Implementations that can be declared or not, logs that follow from them or not, and refutations.
+//! Implementations that can be declared or not, logs that follow from them or not, refutations, and overlaps.
 
 mod declared;
 mod logs;
+mod overlaps;
 mod refutations;
 mod solving;
 
@@ -74,6 +75,21 @@ fn declare(cx: &mut Interner, program: &mut Program, implementation: Impl) -> Re
         return Err(Fault::Refused(NOT_OWNED));
     }
     program.add(cx, implementation)
+}
+
+// Declares the implementations.
+fn declare_all(cx: &mut Interner, program: &mut Program, impls: Vec<Impl>) -> Result<(), Fault>
+    requires { IsProgram cx.old program.old }
+    ensures extends { Extends cx.old cx.new }
+    ensures program { IsProgram cx.new program.new }
+{
+    for implementation in impls {
+        let declared = declare(cx, program, implementation);
+        if declared.is_err() {
+            return declared;
+        }
+    }
+    Ok(())
 }
 
 // Checks the log, which follows from the two implementations and the assumption or not.

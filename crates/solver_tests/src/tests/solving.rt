@@ -4,7 +4,7 @@ ghost use Rattle.tt_interner.specs.Stored.{Extends};
 ghost use Rattle.solver.specs.Program.{IsProgram};
 ghost use Rattle.unify.specs.Bindings.{IsTable};
 
-use super::{declare, holds_anew, slice};
+use super::{declare_all, holds_anew, slice};
 use solver::{Answer, Fault, Impl, Limits, Program, solve};
 use test_terms::{NOT_OWNED, args, param_ty, tuple, ty, u32_ty};
 use type_terms::{
@@ -56,21 +56,6 @@ fn implementation(
         head: implements(cx, number, head)?,
         conditions: goals,
     })
-}
-
-// Declares the implementations.
-fn declare_all(cx: &mut Interner, program: &mut Program, impls: Vec<Impl>) -> Result<(), Fault>
-    requires { IsProgram cx.old program.old }
-    ensures extends { Extends cx.old cx.new }
-    ensures program { IsProgram cx.new program.new }
-{
-    for implementation in impls {
-        let declared = declare(cx, program, implementation);
-        if declared.is_err() {
-            return declared;
-        }
-    }
-    Ok(())
 }
 
 // Makes a variable.

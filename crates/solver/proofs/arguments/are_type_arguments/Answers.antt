@@ -1,9 +1,10 @@
-use Rattle.std.proofs.Common.{length, refl, sym, subst, add-one, arith}
+use Rattle.std.proofs.Common.{length, refl, sym, subst, add-one}
 use Rattle.std.proofs.lemmas.Bool.{eqb-true}
 use Rattle.std.proofs.lemmas.Option.{slice_get_read}
 use Rattle.tt_kinds.specs.Kinds.{arg_shape}
 use Rattle.tt_interner.proofs.OwnedLaws.{get_owned}
-use Rattle.solver.proofs.ArgumentLaws.{AreTypesBelow, arguments_are, items_owned, types_next}
+use Rattle.solver.proofs.ArgumentLaws.{IsTypeAt, arguments_are, items_owned}
+use Rattle.solver.proofs.OutcomeLaws.{HoldsBelow, holds_all, holds_next}
 use Rattle.solver.proofs.arguments.are_type_arguments.Goals as goal
 
 pub is_type_argument-requires : goal.is_type_argument-requires
@@ -20,12 +21,12 @@ loop-index-preserved c =
     let i = c.loop-index.index in
     let x = c.index-items-index.result in
     let there = slice_get_read items (length items) i x refl c.loop-index-test.true c.index-items-index.is in
-    let next = types_next cx items i x c.loop-index.invariant there (c.if-not-is_type_argument.ensures refl) in
-    subst (AreTypesBelow cx items) (sym (add-one i)) next
+    let next = holds_next (IsTypeAt cx) items i x c.loop-index.invariant there (c.if-not-is_type_argument.ensures refl) in
+    subst (HoldsBelow (IsTypeAt cx) items) (sym (add-one i)) next
 
 pub returns : goal.returns
 returns c = λ same.
     let items = c.as_slice-items.result.now in
     arguments_are c.args.cx.now c.args.args items c.as_slice-items.ensures c.args.count
-    (λ k a less there. c.loop-index.invariant k a (let all = c.loop-index-test.false in omega (arith, less, all)) there)
+    (holds_all (IsTypeAt c.args.cx.now) items c.loop-index.index c.loop-index-test.false c.loop-index.invariant)
     (eqb-true (length items) c.args.count same)

@@ -1,7 +1,7 @@
-use Rattle.std.proofs.Common.{take}
-use Rattle.solver.specs.Log.{AreOwnedLines}
+use Rattle.solver.specs.Log.{IsOwnedLine}
+use Rattle.solver.proofs.OutcomeLaws.{HoldsBelow}
 use Rattle.solver.proofs.log.are_owned_lines.Given as goal
 
 -- the first lines are the interner's
 abbrev pub invariant-loop-line : goal.invariant-loop-line
-invariant-loop-line l = AreOwnedLines l.cx (take l.line-index l.lines)
+invariant-loop-line l = HoldsBelow (IsOwnedLine l.cx) l.lines l.line-index

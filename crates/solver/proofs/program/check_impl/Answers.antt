@@ -5,8 +5,8 @@ use Rattle.tt_kinds.specs.Values.{trait_predicate_shape}
 use Rattle.tt_interner.proofs.Growth.{Extends-trans}
 use Rattle.tt_interner.proofs.OwnedLaws.{found_owned, still_owned}
 use Rattle.solver.proofs.ArgumentLaws.{arguments_in_range}
-use Rattle.solver.proofs.OutcomeLaws.{succeeded}
-use Rattle.solver.proofs.ProgramLaws.{AreWrittenBelow, no_goal, impl_written, written_next, written_stays}
+use Rattle.solver.proofs.OutcomeLaws.{HoldsBelow, holds_next, succeeded}
+use Rattle.solver.proofs.ProgramLaws.{IsWrittenFor, no_goal, impl_written, written_stays}
 use Rattle.solver.proofs.program.check_impl.Goals as goal
 
 pub check_written-written-requires-clause-goal : goal.check_written-written-requires-clause-goal
@@ -36,7 +36,8 @@ loop-condition-preserved c =
     (arguments_in_range old args c.as_slice-arguments.result.now c.as_slice-arguments.ensures) condition owned written in
     record {
       extends = Extends-trans inv.extends c.check_written-written.ensures.extends;
-      written = subst (AreWrittenBelow old args conditions) (sym (add-one k)) (written_next old args conditions k condition inv.written at stays);
+      written = subst (HoldsBelow (IsWrittenFor old args) conditions) (sym (add-one k))
+          (holds_next (IsWrittenFor old args) conditions k condition inv.written at stays);
     }
 
 pub returns-clause-written : goal.returns-clause-written

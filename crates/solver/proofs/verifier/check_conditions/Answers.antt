@@ -3,10 +3,9 @@ use Rattle.std.proofs.lemmas.Option.{slice_get_read, slice_get-get_or}
 use Rattle.tt_kinds.specs.Values.{trait_predicate_shape}
 use Rattle.tt_interner.proofs.Growth.{Extends-trans}
 use Rattle.tt_interner.proofs.OwnedLaws.{found_owned, still_owned}
-use Rattle.solver.specs.Log.{AreMetBelow}
+use Rattle.solver.specs.Log.{IsMet}
 use Rattle.solver.proofs.ArgumentLaws.{arguments_in_range}
-use Rattle.solver.proofs.LogLaws.{met_next}
-use Rattle.solver.proofs.OutcomeLaws.{succeeded}
+use Rattle.solver.proofs.OutcomeLaws.{HoldsBelow, holds_all, holds_next, succeeded}
 use Rattle.solver.proofs.ProgramLaws.{instance_stays, no_goal}
 use Rattle.solver.proofs.verifier.check_conditions.Goals as goal
 
@@ -48,5 +47,11 @@ loop-index-preserved c =
     (found_owned trait_predicate_shape old conditions i condition at c.requires.conditions) (c.requires.lines _ line there).goal is in
     record {
       extends = Extends-trans inv.extends c.check_instance-met.ensures.extends;
-      met = subst (AreMetBelow old conditions args lines) (sym (add-one i)) (met_next old conditions args lines i _ condition line inv.met at there stays);
+      met = subst (HoldsBelow (IsMet old args lines) conditions) (sym (add-one i))
+          (holds_next (IsMet old args lines) conditions i condition inv.met at (_, line, there, stays));
     }
+
+pub returns-clause-met : goal.returns-clause-met
+returns-clause-met c =
+    holds_all (IsMet c.args.cx.now c.args.args c.args.lines.now) c.args.conditions.now c.loop-index.index c.loop-index-test.false
+    c.loop-index.invariant.met
